@@ -1,0 +1,4 @@
+pub mod RowLaws
+pub mod ReadLaws
+pub mod Eight
+pub mod Four

@@ -1,0 +1,7 @@
+use borrow.Author.Needs.{needs}
+use Rattle.sha256.specs.Words.{Σ1}
+use Rattle.sha256.proofs.big_sigma1.Needs as need
+
+pub returns : need.returns
+unfolding Σ1
+returns c = search needs
