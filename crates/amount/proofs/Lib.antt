@@ -2,3 +2,4 @@ pub mod RowLaws
 pub mod ReadLaws
 pub mod Eight
 pub mod Four
+pub mod Joins

@@ -1,1 +1,2 @@
 pub mod HashedLaws
+pub mod Short
