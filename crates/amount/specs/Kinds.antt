@@ -1,12 +1,16 @@
 -- What a kind of amount is. An amount means a list of `count` whole numbers.
 use mathlib.Core.Path.{_≡_}
-use mathlib.Core.Bool.{Bool}
+use mathlib.Core.Bool.{Bool, not}
 use mathlib.Core.List.{List, [], _∷_}
 use Prim.Native.Nat.{ℕ, _≤_}
-use lib.Dec.{T}
+use lib.Dec.{T, ltb}
 use lib.ListN.{length}
+use Rattle.std.specs.Options.{isSome}
 use Rattle.std.specs.declared.option.Option.{Option}
 use Rattle.std.specs.declared.option.Option.the-variants.{Some, None}
+use Rattle.refusal.specs.declared.cases.Refusal.{Refusal}
+use Rattle.refusal.specs.declared.cases.Refusal.the-variants.{BadAmount, JoinUnwritable, BufferTooShort}
+use Rattle.refusal.specs.Tables.{_⇒_, first}
 
 pub record Kind : Type 0 where
   -- its number in sheets and files
@@ -51,3 +55,13 @@ pub record Laws (k : Kind) : Type 0 where
 abbrev pub total : Kind → List (List ℕ) → List ℕ
 total k [] = k .zero
 total k (x ∷ xs) = k .join x (total k xs)
+
+-- when joining, reading and writing are refused
+abbrev pub join-refusal : Kind → List ℕ → List ℕ → Option Refusal
+join-refusal k x y = first ((not (k .writable (k .join x y)) ⇒ JoinUnwritable 0) ∷ [])
+
+abbrev pub read-refusal : Kind → List ℕ → Option Refusal
+read-refusal k s = first ((not (isSome (k .read s)) ⇒ BadAmount 0) ∷ [])
+
+abbrev pub write-refusal : Kind → List ℕ → Option Refusal
+write-refusal k buffer = first ((ltb (length buffer) (k .width) ⇒ BufferTooShort) ∷ [])

@@ -3,16 +3,15 @@
 //! `specs/Kinds` is what the rest of the library knows of amounts: a record of what a kind has, and its laws.
 //! A new kind implements `Amount` and shows the laws; nothing above this crate may use more than they say.
 ghost use mathlib.Core.Path.{_≡_};
-ghost use mathlib.Core.Bool.{not, false};
+ghost use mathlib.Core.Bool.{false};
 ghost use mathlib.Core.List.{List, [], _∷_};
 ghost use Prim.Native.Nat.{ℕ, _<_, _≤_};
 ghost use lib.ListN.{length, getD};
-ghost use lib.Dec.{T, ltb};
-ghost use Rattle.std.specs.Options.{isSome, Cases as BySome};
+ghost use lib.Dec.{T};
+ghost use Rattle.std.specs.Options.{Cases as BySome};
 ghost use Rattle.std.specs.declared.option.Option.the-variants.{Some};
-ghost use Rattle.refusal.specs.declared.cases.Refusal.the-variants.{BadAmount, JoinUnwritable, BufferTooShort};
-ghost use Rattle.refusal.specs.Tables.{_⇒_, first, Answers, written};
-ghost use Rattle.amount.specs.Kinds.{Kind, Laws};
+ghost use Rattle.refusal.specs.Tables.{Answers, written};
+ghost use Rattle.amount.specs.Kinds.{Kind, Laws, join-refusal, read-refusal, write-refusal};
 ghost use Rattle.amount.specs.Rows.{four, single, purse};
 
 pub mod types;
@@ -58,9 +57,7 @@ pub trait Amount: Copy {
 
     // Refused exactly where the joint meaning is not writable.
     fn join(self, other: Self) -> Result<Self, Refusal>
-        ensures { λ r. ⌜ Answers r
-            (first ((not (kind .writable (kind .join (meaning self) (meaning other))) ⇒ JoinUnwritable 0) ∷ []))
-            (λ a. meaning a ≡ kind .join (meaning self) (meaning other)) ⌝ };
+        ensures { λ r. ⌜ Answers r (join-refusal kind (meaning self) (meaning other)) (λ a. meaning a ≡ kind .join (meaning self) (meaning other)) ⌝ };
 
     // Whether each number is at most its partner, or what else the kind's order is.
     fn under(self, other: Self) -> bool
@@ -68,16 +65,13 @@ pub trait Amount: Copy {
 
     // Writes the amount's bytes to the front of the buffer, and answers how many they are.
     fn write(self, out: &mut [u8]) -> Result<usize, Refusal>
-        ensures answers { λ r. ⌜ Answers r
-            (first ((ltb (length (now (out .entry))) (kind .width) ⇒ BufferTooShort) ∷ []))
+        ensures answers { λ r. ⌜ Answers r (write-refusal kind (now (out .entry)))
             (λ n. (n ≡ kind .width) × (now (out .exit) ≡ written (kind .bytes (meaning self)) (now (out .entry)))) ⌝ }
         ensures refused { λ r. ⌜ (length (now (out .entry)) < kind .width → now (out .exit) ≡ now (out .entry)) ⌝ };
 
     // The amount whose bytes these are; refused exactly where there is none.
     fn read(bytes: &[u8]) -> Result<Self, Refusal>
-        ensures { λ r. ⌜ Answers r
-            (first ((not (isSome (kind .read (now (bytes .entry)))) ⇒ BadAmount 0) ∷ []))
-            (λ a. kind .read (now (bytes .entry)) ≡ Some (meaning a)) ⌝ };
+        ensures { λ r. ⌜ Answers r (read-refusal kind (now (bytes .entry))) (λ a. kind .read (now (bytes .entry)) ≡ Some (meaning a)) ⌝ };
 }
 
 const MOST: u64 = 0x7fff_ffff_ffff_ffff;

@@ -11,6 +11,7 @@ ghost use lib.Dec.{leb, ltb};
 ghost use lib.ListN.{length, take};
 ghost use Rattle.refusal.specs.declared.cases.Refusal.the-variants.{JoinUnwritable};
 ghost use Rattle.refusal.specs.Tables.{_⇒_, first, Answers};
+ghost use Rattle.amount.specs.Kinds.{join-refusal};
 ghost use Rattle.tree.specs.Texts.{leaf-node, padding-node, inner-node, node-bytes};
 ghost use Rattle.tree.specs.Trees.{node-at, node-refusal, bad-limits};
 ghost use Rattle.tree.specs.Meant.{line-of, node-of, lines-of};
@@ -71,7 +72,7 @@ fn push_node<A: Amount>(text: &mut Text, node: &Node<A>)
 // The node over two others; refused exactly where their joint amount cannot be written.
 pub fn inner<A: Amount, D: Digest>(digest: &D, left: &Node<A>, right: &Node<A>) -> Result<Node<A>, Refusal>
     ensures { λ r. ⌜ Answers r
-        (first ((not (kind .writable (kind .join (meaning (now (left .entry) .amount)) (meaning (now (right .entry) .amount)))) ⇒ JoinUnwritable 0) ∷ []))
+        (join-refusal kind (meaning (now (left .entry) .amount)) (meaning (now (right .entry) .amount)))
         (λ n. node-of meaning n ≡ inner-node kind (D·Digest .hash (now (digest .entry))) (node-of meaning (now (left .entry))) (node-of meaning (now (right .entry)))) ⌝ }
 {
     let amount = left.amount.join(right.amount)?;
@@ -109,7 +110,7 @@ fn subtree<A: Amount, D: Digest>(digest: &D, closing: Closing, lines: &[Line<A>]
 }
 
 // 2 to the power of a depth.
-fn two_to(depth: u8) -> u32
+fn two_to(depth: u32) -> u32
     requires { ⌜ depth ≤ 20 ⌝ }
     ensures { λ r. ⌜ r ≡ 2 ^ depth ⌝ }
 {
@@ -117,14 +118,14 @@ fn two_to(depth: u8) -> u32
 }
 
 // Whether a closing is not 1 to 9,999, or a depth over 20.
-pub fn bad_limits(closing: Closing, depth: u8) -> bool
+pub fn bad_limits(closing: Closing, depth: u32) -> bool
     ensures { λ r. ⌜ r ≡ bad-limits (closing .0) depth ⌝ }
 {
     depth > 20 || closing.0 < 1 || closing.0 > 9999
 }
 
 // Whether a tree has no node n of a height.
-fn no_node(depth: u8, height: u8, n: u32) -> bool
+fn no_node(depth: u32, height: u32, n: u32) -> bool
     requires { ⌜ depth ≤ 20 ⌝ }
     ensures { λ r. ⌜ r ≡ (ltb depth height || leb (2 ^ (depth - height)) n) ⌝ }
 {
@@ -135,9 +136,9 @@ fn no_node(depth: u8, height: u8, n: u32) -> bool
 pub fn tree_node<A: Amount, D: Digest>(
     digest: &D,
     closing: Closing,
-    depth: u8,
+    depth: u32,
     lines: &[Line<A>],
-    height: u8,
+    height: u32,
     n: u32,
 ) -> Result<Node<A>, Refusal>
     ensures { λ r. ⌜ Answers r
@@ -153,5 +154,5 @@ pub fn tree_node<A: Amount, D: Digest>(
     if no_node(depth, height, n) {
         return Err(Refusal::LeafOutside);
     }
-    subtree(digest, closing, lines, height as u32, n)
+    subtree(digest, closing, lines, height, n)
 }

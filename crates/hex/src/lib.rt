@@ -1,0 +1,17 @@
+//! Bytes shown in lowercase hexadecimal, for the programs.
+//!
+//! Only how bytes are printed; nothing of the library rests on it.
+use std::fmt;
+
+#[derive(Clone, Copy)]
+pub struct Hex<'a>(pub &'a [u8]);
+
+pub impl fmt::Display for Hex<'_> as HexDisplay {
+    fn fmt<W: fmt::Write>(&self, f: &mut fmt::Formatter<W>) -> fmt::Result {
+        for b in self.0 {
+            let b = *b;
+            write!(f, "{b:02x}")?;
+        }
+        Ok(())
+    }
+}

@@ -1,0 +1,191 @@
+//! `sumtree script`: calls of the library read from standard input, each answered by one line.
+//!
+//! The language is that of docs/SCRIPT.md. The program reads a call, makes it and shows its answer; it decides nothing
+//! itself. A new call is a case of `Call` and an arm of `Session::answer`.
+mod calls;
+mod words;
+
+use amount::Amount;
+use amount::PurseAmount;
+use amount::SingleAmount;
+use amount::types::Purse;
+use amount::types::Single;
+use calls::AmountKind;
+use calls::Call;
+use calls::read_call;
+use digest::AnyDigestDigest;
+use digest::Digest;
+use digest::kinds::AnyDigest;
+use refusal::cases::Refusal;
+use std::alloc::AllocError;
+use std::alloc::Global;
+use std::env;
+use std::error::AnyError;
+use std::io::BufRead;
+use std::io::BufReader;
+use std::io::BufWriter;
+use std::io::Write;
+use words::show_amount;
+use words::show_bytes;
+
+// What `use` chose.
+#[derive(Clone, Copy)]
+struct Chosen {
+    amount: AmountKind,
+    digest: AnyDigest,
+}
+
+// What the calls so far have made.
+#[derive(Drop)]
+struct Session {
+    heap: Global,
+    chosen: Option<Chosen>,
+}
+
+#[derive(Drop)]
+enum Answer {
+    Said(String),
+    // the types stop the call, or what it needs is not made yet
+    NotNow,
+    // no line of the language
+    Unreadable,
+}
+
+fn said(heap: Global, text: &str) -> Result<Answer, AllocError> {
+    Ok(Answer::Said(String::from_str(heap, text)?))
+}
+
+fn refused(heap: Global, r: Refusal) -> Result<Answer, AllocError> {
+    let number = r.number();
+    let offset = r.offset();
+    Ok(Answer::Said(format!(heap, "refused {number} at {offset}")?))
+}
+
+fn say_amount<A: Amount>(heap: Global, amount: Result<A, Refusal>) -> Result<Answer, AllocError> {
+    match amount {
+        Ok(a) => {
+            let mut text = String::from_str(heap, "amount ")?;
+            show_amount(heap, &mut text, a)?;
+            Ok(Answer::Said(text))
+        }
+        Err(r) => refused(heap, r),
+    }
+}
+
+fn join<A: Amount>(heap: Global, left: &[u64], right: &[u64]) -> Result<Answer, AllocError> {
+    match (A::of_numbers(left), A::of_numbers(right)) {
+        (Some(a), Some(b)) => say_amount(heap, a.join(b)),
+        _ => Ok(Answer::Unreadable),
+    }
+}
+
+// Whether some kind has an amount of these numbers.
+fn some_amount(numbers: &[u64]) -> bool {
+    SingleAmount::of_numbers(numbers).is_some() || PurseAmount::of_numbers(numbers).is_some()
+}
+
+impl Session {
+    fn digest(&self, text: &[u8]) -> Result<Answer, AllocError> {
+        let Some(chosen) = self.chosen else {
+            return Ok(Answer::NotNow);
+        };
+        match chosen.digest.digest(text) {
+            Ok(d) => {
+                let mut line = String::from_str(self.heap, "digest ")?;
+                show_bytes(&mut line, &d)?;
+                Ok(Answer::Said(line))
+            }
+            Err(r) => refused(self.heap, r),
+        }
+    }
+
+    fn amount(&self, text: &[u8]) -> Result<Answer, AllocError> {
+        let Some(chosen) = self.chosen else {
+            return Ok(Answer::NotNow);
+        };
+        match chosen.amount {
+            AmountKind::Single => say_amount(self.heap, SingleAmount::read(text)),
+            AmountKind::Purse => say_amount(self.heap, PurseAmount::read(text)),
+        }
+    }
+
+    fn join(&self, left: &[u64], right: &[u64]) -> Result<Answer, AllocError> {
+        let Some(chosen) = self.chosen else {
+            let readable = some_amount(left) && some_amount(right);
+            return Ok(if readable { Answer::NotNow } else { Answer::Unreadable });
+        };
+        match chosen.amount {
+            AmountKind::Single => join::<Single>(self.heap, left, right),
+            AmountKind::Purse => join::<Purse>(self.heap, left, right),
+        }
+    }
+
+    fn answer(&mut self, call: Call) -> Result<Answer, AllocError> {
+        match call {
+            Call::Use(amount, digest) => {
+                self.chosen = Some(Chosen { amount, digest });
+                said(self.heap, "ready")
+            }
+            Call::Digest(text) => self.digest(&text),
+            Call::Amount(text) => self.amount(&text),
+            Call::Join(left, right) => self.join(&left, &right),
+            _ => Ok(Answer::NotNow),
+        }
+    }
+
+    // The answer to a line; nothing to a blank one or a remark.
+    fn line(&mut self, line: &[u8]) -> Result<Option<Answer>, AllocError> {
+        if line.is_empty() || line[0] == b'#' {
+            return Ok(None);
+        }
+        let Ok(text) = std::str::from_utf8(line) else {
+            return Ok(Some(Answer::Unreadable));
+        };
+        match read_call(self.heap, text)? {
+            Some(call) => Ok(Some(self.answer(call)?)),
+            None => Ok(Some(Answer::Unreadable)),
+        }
+    }
+}
+
+fn show<W: Write>(out: &mut W, answer: Answer) -> std::io::Result<()> {
+    match answer {
+        Answer::Said(text) => out.write_all(text.as_bytes())?,
+        Answer::NotNow => out.write_all(b"not now")?,
+        Answer::Unreadable => out.write_all(b"unreadable")?,
+    }
+    out.write_all(b"\n")
+}
+
+fn script(rt: &LibcRuntime) -> Result<(), AnyError> {
+    let heap = rt.alloc();
+    let mut out = BufWriter::new(rt.stdout());
+    let mut session = Session { heap, chosen: None };
+    for line in BufReader::new(rt.stdin()).split(heap, b'\n') {
+        if let Some(answer) = session.line(&line?)? {
+            show(&mut out, answer)?;
+        }
+    }
+    out.flush()?;
+    Ok(())
+}
+
+fn usage(rt: &LibcRuntime) -> Result<(), AnyError> {
+    println!(rt, "usage: sumtree script")?;
+    println!(rt, "  reads calls from standard input, one to a line, and answers each by one line")?;
+    println!(rt, "  (the language is described in docs/SCRIPT.md)")?;
+    Ok(())
+}
+
+fn main(rt: LibcRuntime) -> Result<(), AnyError> {
+    let mut args = env::args(&rt)?;
+    let _program = args.next();
+    let script_asked = match args.next() {
+        Some(word) => word.as_str() == "script",
+        None => false,
+    };
+    if script_asked && args.next().is_none() {
+        return rt.report(script(&rt));
+    }
+    rt.report(usage(&rt))
+}
