@@ -1,5 +1,3 @@
 pub mod RowLaws
 pub mod ReadLaws
-pub mod Eight
-pub mod Four
 pub mod Joins

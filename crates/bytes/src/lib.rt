@@ -12,12 +12,12 @@ ghost use Rattle.bytes.specs.BigEndian.{be};
 pub fn be4(x: u32) -> [u8; 4]
     ensures { λ r. ⌜ r ≡ be 4 x ⌝ }
 {
-    x.to_be_bytes()
+    u32::to_be_bytes(x)
 }
 
 // The eight bytes of a number, the highest first.
 pub fn be8(x: u64) -> [u8; 8]
     ensures { λ r. ⌜ r ≡ be 8 x ⌝ }
 {
-    x.to_be_bytes()
+    u64::to_be_bytes(x)
 }

@@ -33,10 +33,14 @@ right degree p k = ltb k (2 ^ 32) && (low degree p k && high degree p k)
 
 fraction : (degree p k : ℕ) → T (right degree p k) → Fraction degree p k
 fraction degree p k t =
-    let rest = both-right (ltb k (2 ^ 32)) (low degree p k && high degree p k) t in
-    (whole degree p 10, (ltb→lt k (2 ^ 32) (both-left (ltb k (2 ^ 32)) (low degree p k && high degree p k) t),
-      leb→le ((whole degree p 10 * 2 ^ 32 + k) ^ degree) (p * (2 ^ 32) ^ degree) (both-left (low degree p k) (high degree p k) rest),
-      ltb→lt (p * (2 ^ 32) ^ degree) ((whole degree p 10 * 2 ^ 32 + k + 1) ^ degree) (both-right (low degree p k) (high degree p k) rest)))
+    let rest = both-right (ltb k (2 ^ 32)) (low degree p k && high degree p k) t in (
+      whole degree p 10,
+      (
+        ltb→lt k (2 ^ 32) (both-left (ltb k (2 ^ 32)) (low degree p k && high degree p k) t),
+        leb→le ((whole degree p 10 * 2 ^ 32 + k) ^ degree) (p * (2 ^ 32) ^ degree) (both-left (low degree p k) (high degree p k) rest),
+        ltb→lt (p * (2 ^ 32) ^ degree) ((whole degree p 10 * 2 ^ 32 + k + 1) ^ degree) (both-right (low degree p k) (high degree p k) rest),
+      ),
+    )
 
 abbrev every : ℕ → List ℕ → List ℕ → Bool
 every degree [] [] = true

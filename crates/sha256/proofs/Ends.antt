@@ -32,15 +32,15 @@ last-is out rest b e k size o l m q =
     let n = length rest in
     let z = e - 9 - length rest in
     let p : postOf 0 (n - 0) out ≡ 0 ∷ replicate (127 - n) 0 =
-        ap (λ x. drop (n - 0) x) o ∙ drop-replicate (n - 0) 128 0 ∙ ap (λ x. replicate x 0) (let a : 128 - (n - 0) ≡ suc (127 - n) = omega arith in a) in
+    ap (λ x. drop (n - 0) x) o ∙ drop-replicate (n - 0) 128 0 ∙ ap (λ x. replicate x 0) (let a : 128 - (n - 0) ≡ suc (127 - n) = omega arith in a) in
     let s : set (rest ++ postOf 0 (n - 0) out) n 128 ≡ rest ++ (128 ∷ replicate (127 - n) 0) =
-        ap (λ x. set (rest ++ x) n 128) p ∙ set-at rest 0 (replicate (127 - n) 0) 128 n refl in
+    ap (λ x. set (rest ++ x) n 128) p ∙ set-at rest 0 (replicate (127 - n) 0) 128 n refl in
     let f : length (rest ++ (128 ∷ replicate (127 - n) 0)) ≡ 128 = simp (length-append, length-replicate) (omega arith) in
     let g : length b ≡ 8 = ap length q in
     let t : take (e - 8) (rest ++ (128 ∷ replicate (127 - n) 0)) ≡ rest ++ (128 ∷ replicate z 0) =
-        ap (λ x. take x (rest ++ (128 ∷ replicate (127 - n) 0))) (let a : e - 8 ≡ length rest + suc z = omega arith in a)
-        ∙ take-append-add rest (128 ∷ replicate (127 - n) 0) (suc z)
-        ∙ ap (λ x. rest ++ (128 ∷ x)) (take-replicate z (127 - n) 0 (omega arith)) in
+    ap (λ x. take x (rest ++ (128 ∷ replicate (127 - n) 0))) (let a : e - 8 ≡ length rest + suc z = omega arith in a)
+    ∙ take-append-add rest (128 ∷ replicate (127 - n) 0) (suc z)
+    ∙ ap (λ x. rest ++ (128 ∷ x)) (take-replicate z (127 - n) 0 (omega arith)) in
     ap (λ x. take e (putMid (e - 8) k x b)) s
     ∙ take-putMid (e - 8) k (rest ++ (128 ∷ replicate (127 - n) 0)) b e (omega arith) (omega arith)
     ∙ ap (λ x. x ++ b) t

@@ -32,6 +32,10 @@ scheduled-more w s t v l h e f =
     let n : v ≡ next (scheduled (t - 16) s) (16 + (t - 16)) = f ∙ sym (next-word-front w t l) ∙ ap (λ x. next x t) e ∙ ap (next (scheduled (t - 16) s)) (sym q) in
     rw (p, add-one t) (take-suc-set w t v h ∙ ap (λ x. x ++ (v ∷ [])) e ∙ ap (λ x. scheduled (t - 16) s ++ (x ∷ [])) n)
 
+-- the same at an equal place
+pub scheduled-at : (w s : List ℕ) (m n : ℕ) → m ≡ n → take m w ≡ scheduled (m - 16) s → take n w ≡ scheduled (n - 16) s
+scheduled-at w s m n e h = subst (λ k. take k w ≡ scheduled (k - 16) s) e h
+
 pub rounds-more : (h w : List ℕ) (t : ℕ) → rounds (t + 1) h w ≡ rounds (suc t) h w
 rounds-more h w t = ap (λ n. rounds n h w) (add-one t)
 

@@ -53,7 +53,37 @@ fn word(block: &[u8], t: usize) -> u32
     requires { ⌜ t * 4 + 4 ≤ length (now block) ⌝ }
     ensures { λ r. ⌜ r ≡ spec.word-at (now (block .entry)) t ⌝ }
 {
-    u32::from_be_bytes([block[t * 4], block[t * 4 + 1], block[t * 4 + 2], block[t * 4 + 3]])
+    u32::from_be_bytes([
+        block[t * 4],
+        block[t * 4 + 1],
+        block[t * 4 + 2],
+        block[t * 4 + 3],
+    ])
+}
+
+// Word t of the schedule, from those before it.
+fn next_word(w: &mut [u32; 64], t: usize)
+    requires { ⌜ 16 ≤ t ⌝ ∗ ⌜ t < 64 ⌝ }
+    ensures { λ _. ⌜ ((s : List ℕ) → take t (now (w .entry)) ≡ spec.scheduled (t - 16) s → take (t + 1) (now (w .exit)) ≡ spec.scheduled (t + 1 - 16) s) ⌝ }
+{
+    let x = small_sigma1(w[t - 2]).wrapping_add(w[t - 7]);
+    let y = small_sigma0(w[t - 15]).wrapping_add(w[t - 16]);
+    w[t] = x.wrapping_add(y);
+}
+
+// Eight words more, from the place t on.
+fn eight_words(w: &mut [u32; 64], t: usize)
+    requires { ⌜ 16 ≤ t ⌝ ∗ ⌜ t + 8 ≤ 64 ⌝ }
+    ensures { λ _. ⌜ ((s : List ℕ) → take t (now (w .entry)) ≡ spec.scheduled (t - 16) s → take (t + 8) (now (w .exit)) ≡ spec.scheduled (t + 8 - 16) s) ⌝ }
+{
+    next_word(w, t);
+    next_word(w, t + 1);
+    next_word(w, t + 2);
+    next_word(w, t + 3);
+    next_word(w, t + 4);
+    next_word(w, t + 5);
+    next_word(w, t + 6);
+    next_word(w, t + 7);
 }
 
 // The schedule of a block.
@@ -65,10 +95,8 @@ fn schedule(block: &[u8]) -> [u32; 64]
     for t in 0..16 {
         w[t] = word(block, t);
     }
-    for t in 16..64 {
-        let x = small_sigma1(w[t - 2]).wrapping_add(w[t - 7]);
-        let y = small_sigma0(w[t - 15]).wrapping_add(w[t - 16]);
-        w[t] = x.wrapping_add(y);
+    for i in 0..6 {
+        eight_words(&mut w, 16 + i * 8);
     }
     w
 }
@@ -77,13 +105,21 @@ fn schedule(block: &[u8]) -> [u32; 64]
 fn round(s: [u32; 8], k: u32, w: u32) -> [u32; 8]
     ensures { λ r. ⌜ r ≡ spec.round s k w ⌝ }
 {
-    let t1 = s[7]
-        .wrapping_add(big_sigma1(s[4]))
+    let t1 = s[7].wrapping_add(big_sigma1(s[4]))
         .wrapping_add(ch(s[4], s[5], s[6]))
         .wrapping_add(k)
         .wrapping_add(w);
     let t2 = big_sigma0(s[0]).wrapping_add(maj(s[0], s[1], s[2]));
-    [t1.wrapping_add(t2), s[0], s[1], s[2], s[3].wrapping_add(t1), s[4], s[5], s[6]]
+    [
+        t1.wrapping_add(t2),
+        s[0],
+        s[1],
+        s[2],
+        s[3].wrapping_add(t1),
+        s[4],
+        s[5],
+        s[6],
+    ]
 }
 
 fn round_constant(t: usize) -> u32

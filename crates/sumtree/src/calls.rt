@@ -121,7 +121,11 @@ fn made_shape(heap: Global, word: &str) -> Result<Option<Shape>, AllocError> {
     }
 }
 
-fn two_shapes(heap: Global, nodes: &str, leaves: &str) -> Result<Option<(Shape, Shape)>, AllocError> {
+fn two_shapes(
+    heap: Global,
+    nodes: &str,
+    leaves: &str,
+) -> Result<Option<(Shape, Shape)>, AllocError> {
     let (Some(n), Some(l)) = (made_shape(heap, nodes)?, made_shape(heap, leaves)?) else {
         return Ok(None);
     };
@@ -148,7 +152,12 @@ fn put(heap: Global, closing: &str, place: &str, record: &str) -> Result<Option<
     }
 }
 
-fn enter(heap: Global, customer: &str, salt: &str, balance: &str) -> Result<Option<Call>, AllocError> {
+fn enter(
+    heap: Global,
+    customer: &str,
+    salt: &str,
+    balance: &str,
+) -> Result<Option<Call>, AllocError> {
     let Some(c) = bytes(heap, customer)? else {
         return Ok(None);
     };
@@ -244,7 +253,12 @@ fn with_two_numbers(name: &str, one: &str, two: &str) -> Option<Call> {
     }
 }
 
-fn parties(heap: Global, name: &str, nodes: &str, leaves: &str) -> Result<Option<Call>, AllocError> {
+fn parties(
+    heap: Global,
+    name: &str,
+    nodes: &str,
+    leaves: &str,
+) -> Result<Option<Call>, AllocError> {
     let Some((n, l)) = two_shapes(heap, nodes, leaves)? else {
         return Ok(None);
     };
@@ -280,7 +294,13 @@ fn with_three_numbers(name: &str, one: &str, two: &str, three: &str) -> Option<C
     }
 }
 
-fn four_words(heap: Global, name: &str, one: &str, two: &str, three: &str) -> Result<Option<Call>, AllocError> {
+fn four_words(
+    heap: Global,
+    name: &str,
+    one: &str,
+    two: &str,
+    three: &str,
+) -> Result<Option<Call>, AllocError> {
     match name {
         "put" => put(heap, one, two, three),
         "enter" => enter(heap, one, two, three),

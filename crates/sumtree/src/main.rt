@@ -2,21 +2,26 @@
 //!
 //! The language is that of docs/SCRIPT.md. The program reads a call, makes it and shows its answer; it decides nothing
 //! itself. A new call is a case of `Call` and an arm of `Session::answer`.
+ghost use mathlib.Core.Path.{_≡_};
+ghost use mathlib.Core.Bool.{false};
+ghost use Prim.Native.Nat.{_<_};
+ghost use lib.ListN.{length};
+
 mod calls;
 mod words;
 
 use amount::Amount;
-use amount::PurseAmount;
-use amount::SingleAmount;
-use amount::types::Purse;
-use amount::types::Single;
 use calls::AmountKind;
 use calls::Call;
 use calls::read_call;
 use digest::AnyDigestDigest;
 use digest::Digest;
 use digest::kinds::AnyDigest;
+use purse::Purse;
+use purse::PurseAmount;
 use refusal::cases::Refusal;
+use single::Single;
+use single::SingleAmount;
 use std::alloc::AllocError;
 use std::alloc::Global;
 use std::env;
@@ -84,6 +89,18 @@ fn some_amount(numbers: &[u64]) -> bool {
     SingleAmount::of_numbers(numbers).is_some() || PurseAmount::of_numbers(numbers).is_some()
 }
 
+// Whether a line has nothing but spaces.
+fn blank(line: &[u8]) -> bool
+    ensures { λ r. ⌜ (r ≡ false → 0 < length (now (line .entry))) ⌝ }
+{
+    for b in line {
+        if *b != b' ' {
+            return false;
+        }
+    }
+    true
+}
+
 impl Session {
     fn digest(&self, text: &[u8]) -> Result<Answer, AllocError> {
         let Some(chosen) = self.chosen else {
@@ -112,7 +129,11 @@ impl Session {
     fn join(&self, left: &[u64], right: &[u64]) -> Result<Answer, AllocError> {
         let Some(chosen) = self.chosen else {
             let readable = some_amount(left) && some_amount(right);
-            return Ok(if readable { Answer::NotNow } else { Answer::Unreadable });
+            return Ok(if readable {
+                Answer::NotNow
+            } else {
+                Answer::Unreadable
+            });
         };
         match chosen.amount {
             AmountKind::Single => join::<Single>(self.heap, left, right),
@@ -135,7 +156,7 @@ impl Session {
 
     // The answer to a line; nothing to a blank one or a remark.
     fn line(&mut self, line: &[u8]) -> Result<Option<Answer>, AllocError> {
-        if line.is_empty() || line[0] == b'#' {
+        if blank(line) || line[0] == b'#' {
             return Ok(None);
         }
         let Ok(text) = std::str::from_utf8(line) else {
@@ -172,7 +193,10 @@ fn script(rt: &LibcRuntime) -> Result<(), AnyError> {
 
 fn usage(rt: &LibcRuntime) -> Result<(), AnyError> {
     println!(rt, "usage: sumtree script")?;
-    println!(rt, "  reads calls from standard input, one to a line, and answers each by one line")?;
+    println!(
+        rt,
+        "  reads calls from standard input, one to a line, and answers each by one line"
+    )?;
     println!(rt, "  (the language is described in docs/SCRIPT.md)")?;
     Ok(())
 }

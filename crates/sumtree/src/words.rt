@@ -95,7 +95,22 @@ pub(crate) fn numbers(heap: Global, word: &str) -> Result<Option<Vec<u64>>, Allo
 }
 
 static DIGITS: [char; 16] = [
-    '0', '1', '2', '3', '4', '5', '6', '7', '8', '9', 'a', 'b', 'c', 'd', 'e', 'f',
+    '0',
+    '1',
+    '2',
+    '3',
+    '4',
+    '5',
+    '6',
+    '7',
+    '8',
+    '9',
+    'a',
+    'b',
+    'c',
+    'd',
+    'e',
+    'f',
 ];
 
 // Puts bytes behind what there is, as a script writes them.
@@ -111,7 +126,11 @@ pub(crate) fn show_bytes(out: &mut String, bytes: &[u8]) -> Result<(), AllocErro
 }
 
 // Puts an amount behind what there is, as a script writes it.
-pub(crate) fn show_amount<A: Amount>(heap: Global, out: &mut String, amount: A) -> Result<(), AllocError> {
+pub(crate) fn show_amount<A: Amount>(
+    heap: Global,
+    out: &mut String,
+    amount: A,
+) -> Result<(), AllocError> {
     for i in 0..A::count() {
         if i > 0 {
             out.push('+')?;

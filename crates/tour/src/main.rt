@@ -3,8 +3,6 @@
 //! It reads data/ledger.txt (a closing and a depth, then a line for each balance: customer number, salt and cents) and
 //! prints every step, so that a person can follow it.
 use amount::Amount;
-use amount::SingleAmount;
-use amount::types::Single;
 use digest::Sha256Digest;
 use digest::kinds::Sha256;
 use hex::Hex;
@@ -12,6 +10,8 @@ use hex::HexDisplay;
 use numbering::Closing;
 use refusal::RefusalDisplay;
 use refusal::cases::Refusal;
+use single::Single;
+use single::SingleAmount;
 use std::alloc::Global;
 use std::error::AnyError;
 use std::fs;
@@ -44,7 +44,11 @@ fn line_of(text: &str) -> Option<Line<Single>> {
     let salt = salt_of(words.next()?)?;
     let cents = words.next()?.parse::<u64>().ok()?;
     let balance = SingleAmount::of_numbers(&[cents])?;
-    Some(Line { customer: customer.to_be_bytes(), salt, balance })
+    Some(Line {
+        customer: customer.to_be_bytes(),
+        salt,
+        balance,
+    })
 }
 
 fn head_of(text: &str) -> Option<(u32, u32)> {
@@ -72,14 +76,21 @@ fn read_ledger(heap: Global, text: &str) -> Result<Ledger, AnyError> {
         };
         lines.push(line)?;
     }
-    Ok(Ledger { closing: Closing(closing), depth, lines })
+    Ok(Ledger {
+        closing: Closing(closing),
+        depth,
+        lines,
+    })
 }
 
 fn show_line(rt: &LibcRuntime, n: usize, line: &Line<Single>) -> io::Result<()> {
     let customer = Hex(&line.customer);
     let salt = Hex(&line.salt);
     let cents = line.balance.cents;
-    println!(rt, "line {n}: customer {customer}, salt {salt}, {cents} cents")
+    println!(
+        rt,
+        "line {n}: customer {customer}, salt {salt}, {cents} cents"
+    )
 }
 
 fn show_node(rt: &LibcRuntime, name: &str, n: u32, node: &Node<Single>) -> io::Result<()> {
@@ -90,11 +101,27 @@ fn show_node(rt: &LibcRuntime, name: &str, n: u32, node: &Node<Single>) -> io::R
 
 // How many nodes a height has.
 fn level_len(depth: u32, height: u32) -> u32 {
-    if height <= depth && depth <= 20 { 1 << (depth - height) } else { 0 }
+    if height <= depth && depth <= 20 {
+        1 << (depth - height)
+    } else {
+        0
+    }
 }
 
-fn node_of(rt: &LibcRuntime, ledger: &Ledger, height: u32, n: u32) -> Result<Node<Single>, AnyError> {
-    match tree_node(&Sha256, ledger.closing, ledger.depth, &ledger.lines, height, n) {
+fn node_of(
+    rt: &LibcRuntime,
+    ledger: &Ledger,
+    height: u32,
+    n: u32,
+) -> Result<Node<Single>, AnyError> {
+    match tree_node(
+        &Sha256,
+        ledger.closing,
+        ledger.depth,
+        &ledger.lines,
+        height,
+        n,
+    ) {
         Ok(node) => Ok(node),
         Err(r) => {
             println!(rt, "{r}")?;
@@ -107,7 +134,11 @@ fn leaf_name(ledger: &Ledger, height: u32, n: u32) -> &'static str {
     if height > 0 {
         return "node";
     }
-    if (n as usize) < ledger.lines.len() { "leaf" } else { "padding" }
+    if (n as usize) < ledger.lines.len() {
+        "leaf"
+    } else {
+        "padding"
+    }
 }
 
 fn show_level(rt: &LibcRuntime, ledger: &Ledger, height: u32) -> Result<(), AnyError> {
@@ -122,7 +153,10 @@ fn show_level(rt: &LibcRuntime, ledger: &Ledger, height: u32) -> Result<(), AnyE
 fn show_lines(rt: &LibcRuntime, ledger: &Ledger) -> io::Result<()> {
     let closing = ledger.closing.0;
     let depth = ledger.depth;
-    println!(rt, "The ledger of closing {closing}, in a tree of depth {depth}.")?;
+    println!(
+        rt,
+        "The ledger of closing {closing}, in a tree of depth {depth}."
+    )?;
     for (n, line) in ledger.lines.iter().enumerate() {
         show_line(rt, n, line)?;
     }
@@ -130,7 +164,10 @@ fn show_lines(rt: &LibcRuntime, ledger: &Ledger) -> io::Result<()> {
 }
 
 fn show_tree(rt: &LibcRuntime, ledger: &Ledger) -> Result<(), AnyError> {
-    println!(rt, "The tree, from the leaves up: each node is the SHA-256 of its text, and the sum below it.")?;
+    println!(
+        rt,
+        "The tree, from the leaves up: each node is the SHA-256 of its text, and the sum below it."
+    )?;
     for height in 0..ledger.depth.min(20) + 1 {
         show_level(rt, ledger, height)?;
     }

@@ -104,7 +104,7 @@ halves n h height e w =
     let q = 2 ^ h in
     let p : 1 ≤ q = one-le-pow h 2 (omega arith) in
     let a : (n + 1) * 2 ^ height ≡ (2 * n + 1 + 1) * q =
-        ap (λ m. (n + 1) * 2 ^ m) e ∙ ap (λ m. (n + 1) * m) (pow-succ' 2 h) ∙ sym (mul-assoc (n + 1) 2 q) ∙ ap (λ m. m * q) (let b : (n + 1) * 2 ≡ 2 * n + 1 + 1 = omega arith in b) in
+    ap (λ m. (n + 1) * 2 ^ m) e ∙ ap (λ m. (n + 1) * m) (pow-succ' 2 h) ∙ sym (mul-assoc (n + 1) 2 q) ∙ ap (λ m. m * q) (let b : (n + 1) * 2 ≡ 2 * n + 1 + 1 = omega arith in b) in
     let l : (2 * n + 1) * q ≤ (2 * n + 1 + 1) * q = mul-le-mul-right q (let b : 2 * n + 1 ≤ 2 * n + 1 + 1 = omega arith in b) in
     let r : (2 * n + 1 + 1) * 1 ≤ (2 * n + 1 + 1) * q = mul-le-mul-left (2 * n + 1 + 1) p in
     (omega arith, omega arith, omega arith)

@@ -47,7 +47,10 @@ pub fn leaf<A: Amount, D: Digest>(digest: &D, closing: Closing, line: &Line<A>) 
     text.push(&line.customer);
     text.push(&line.salt);
     text.push_amount(line.balance);
-    Node { digest: digest_of(digest, &text), amount: line.balance }
+    Node {
+        digest: digest_of(digest, &text),
+        amount: line.balance,
+    }
 }
 
 // The node of a leaf with no line.
@@ -57,7 +60,10 @@ pub fn padding<A: Amount, D: Digest>(digest: &D, closing: Closing, leaf: Leaf) -
     let mut text = Text::of_byte(2);
     text.push(&closing.0.to_be_bytes());
     text.push(&leaf.0.to_be_bytes());
-    Node { digest: digest_of(digest, &text), amount: A::zero() }
+    Node {
+        digest: digest_of(digest, &text),
+        amount: A::zero(),
+    }
 }
 
 fn push_node<A: Amount>(text: &mut Text, node: &Node<A>)
@@ -70,7 +76,11 @@ fn push_node<A: Amount>(text: &mut Text, node: &Node<A>)
 }
 
 // The node over two others; refused exactly where their joint amount cannot be written.
-pub fn inner<A: Amount, D: Digest>(digest: &D, left: &Node<A>, right: &Node<A>) -> Result<Node<A>, Refusal>
+pub fn inner<A: Amount, D: Digest>(
+    digest: &D,
+    left: &Node<A>,
+    right: &Node<A>,
+) -> Result<Node<A>, Refusal>
     ensures { λ r. ⌜ Answers r
         (join-refusal kind (meaning (now (left .entry) .amount)) (meaning (now (right .entry) .amount)))
         (λ n. node-of meaning n ≡ inner-node kind (D·Digest .hash (now (digest .entry))) (node-of meaning (now (left .entry))) (node-of meaning (now (right .entry)))) ⌝ }
@@ -79,11 +89,19 @@ pub fn inner<A: Amount, D: Digest>(digest: &D, left: &Node<A>, right: &Node<A>) 
     let mut text = Text::of_byte(1);
     push_node(&mut text, left);
     push_node(&mut text, right);
-    Ok(Node { digest: digest_of(digest, &text), amount })
+    Ok(Node {
+        digest: digest_of(digest, &text),
+        amount,
+    })
 }
 
 // Leaf n of a ledger's tree.
-fn leaf_or_padding<A: Amount, D: Digest>(digest: &D, closing: Closing, lines: &[Line<A>], n: u32) -> Node<A>
+fn leaf_or_padding<A: Amount, D: Digest>(
+    digest: &D,
+    closing: Closing,
+    lines: &[Line<A>],
+    n: u32,
+) -> Node<A>
     ensures { λ r. ⌜ node-of meaning r ≡ node-at kind (D·Digest .hash (now (digest .entry))) (closing .0) (lines-of meaning (now (lines .entry))) 0 n ⌝ }
 {
     let i = n as usize;
@@ -95,7 +113,13 @@ fn leaf_or_padding<A: Amount, D: Digest>(digest: &D, closing: Closing, lines: &[
 }
 
 // Node n of a height; refused exactly where its amount cannot be written.
-fn subtree<A: Amount, D: Digest>(digest: &D, closing: Closing, lines: &[Line<A>], height: u32, n: u32) -> Result<Node<A>, Refusal>
+fn subtree<A: Amount, D: Digest>(
+    digest: &D,
+    closing: Closing,
+    lines: &[Line<A>],
+    height: u32,
+    n: u32,
+) -> Result<Node<A>, Refusal>
     requires { ⌜ (n + 1) * 2 ^ height ≤ 2 ^ 20 ⌝ }
     ensures { λ r. ⌜ Answers r
         (first ((not (kind .writable (node-at kind (D·Digest .hash (now (digest .entry))) (closing .0) (lines-of meaning (now (lines .entry))) height n .amount)) ⇒ JoinUnwritable 0) ∷ []))

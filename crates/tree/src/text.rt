@@ -7,7 +7,7 @@ use amount::Amount;
 
 // The longest text has 225 bytes: an inner one at the greatest width.
 #[derive(Drop)]
-pub struct Text {
+pub(crate) struct Text {
     bytes: [u8; 225],
     len: usize,
     ghost fits: { len ≤ 225 },
@@ -15,7 +15,7 @@ pub struct Text {
 
 impl Text {
     // A text of one byte.
-    pub fn of_byte(b: u8) -> Text
+    pub(crate) fn of_byte(b: u8) -> Text
         ensures len { λ r. ⌜ r .len ≡ 1 ⌝ }
         ensures said { λ r. ⌜ take (r .len) (r .bytes) ≡ b ∷ [] ⌝ }
     {
@@ -25,7 +25,7 @@ impl Text {
     }
 
     // Puts a part behind what there is.
-    pub fn push(&mut self, part: &[u8])
+    pub(crate) fn push(&mut self, part: &[u8])
         requires { ⌜ now self .len + length (now part) ≤ 225 ⌝ }
         ensures len { λ _. ⌜ now (self .exit) .len ≡ now (self .entry) .len + length (now (part .entry)) ⌝ }
         ensures said { λ _. ⌜ take (now (self .exit) .len) (now (self .exit) .bytes) ≡ take (now (self .entry) .len) (now (self .entry) .bytes) ++ now (part .entry) ⌝ }
@@ -36,7 +36,7 @@ impl Text {
     }
 
     // Puts the bytes of an amount behind what there is.
-    pub fn push_amount<A: Amount>(&mut self, amount: A)
+    pub(crate) fn push_amount<A: Amount>(&mut self, amount: A)
         requires { ⌜ now self .len + kind .width ≤ 225 ⌝ }
         ensures len { λ _. ⌜ now (self .exit) .len ≡ now (self .entry) .len + kind .width ⌝ }
         ensures said { λ _. ⌜ take (now (self .exit) .len) (now (self .exit) .bytes) ≡ take (now (self .entry) .len) (now (self .entry) .bytes) ++ kind .bytes (meaning amount) ⌝ }
@@ -50,7 +50,7 @@ impl Text {
     }
 
     // What it says.
-    pub fn as_slice(&self) -> &[u8]
+    pub(crate) fn as_slice(&self) -> &[u8]
         ensures { λ r. ⌜ now r ≡ take (now (self .entry) .len) (now (self .entry) .bytes) ⌝ }
     {
         &self.bytes[0..self.len]

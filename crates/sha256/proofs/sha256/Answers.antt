@@ -44,5 +44,5 @@ returns-else-rest-lt56 c =
     let e = sym (take-all 128 (c .last-blocks .result) l) ∙ c .last-blocks .ensures ∙ ap (λ x. x ++ ending (128 - 9 - length x) (length s)) (rest-is s (length s / 64 * 64)) in
     let large : 56 ≤ length s % 64 = omega (arith, ap length (rest-is s (length s / 64 * 64)), length-drop (length s / 64 * 64) s) in
     c .bytes-of-else-rest-lt56 .ensures ∙ ap bytes (c .compress-else-rest-lt56 .ensures)
-     ∙ ap (λ x. bytes (compress x (take 64 (drop 64 (c .last-blocks .result))))) (c .compress-one .ensures)
-     ∙ ends-two s (c .loop-i .h) (c .last-blocks .result) large h e
+    ∙ ap (λ x. bytes (compress x (take 64 (drop 64 (c .last-blocks .result))))) (c .compress-one .ensures)
+    ∙ ends-two s (c .loop-i .h) (c .last-blocks .result) large h e

@@ -20,6 +20,6 @@ returns g c =
     let t4 = c .push-amount .last .self in
     let e1 = c .push .ensures .said ∙ ap (λ x. take (t0 .len) (t0 .bytes) ++ x) (c .to-be-bytes .ensures ∙ be-4 n) in
     let e = four-parts (take (t0 .len) (t0 .bytes)) (take (t1 .len) (t1 .bytes)) (take (t2 .len) (t2 .bytes)) (take (t3 .len) (t3 .bytes)) (take (t4 .len) (t4 .bytes))
-        (be 4 n) (l .customer) (l .salt) (a .kind .bytes (a .meaning (l .balance))) 0
-        (c .of-byte-text .ensures .said) e1 (c .push-2 .ensures .said) (c .push-3 .ensures .said) (c .push-amount .ensures .said) in
+    (be 4 n) (l .customer) (l .salt) (a .kind .bytes (a .meaning (l .balance))) 0
+    (c .of-byte-text .ensures .said) e1 (c .push-2 .ensures .said) (c .push-3 .ensures .said) (c .push-amount .ensures .said) in
     ap (λ (d : List ℕ). record { digest = d; amount = a .meaning (l .balance) }) (c .digest-of .ensures ∙ ap (g .D·Digest .hash (c .args .digest .now) .of) e)
