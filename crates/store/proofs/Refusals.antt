@@ -10,10 +10,12 @@ use Rattle.std.specs.Options.{isSome}
 use Rattle.std.specs.declared.option.Option.{Option}
 use Rattle.std.specs.declared.option.Option.the-variants.{Some, None}
 use Rattle.std.proofs.shelf.Tests.{eq-eqb, ne-eqb, eqb-true, eqb-false, both-ways}
+use Rattle.std.specs.declared.result.Result.{Result}
+use Rattle.std.specs.declared.result.Result.the-variants.{Ok, Err}
 use Rattle.refusal.specs.declared.cases.Refusal.{Refusal}
 use Rattle.refusal.specs.declared.cases.Refusal.the-variants.{KeyOutside, WrongWidth, Full}
 use Rattle.store.specs.Meaning.{Meaning, in-span, inside}
-use Rattle.store.specs.Calls.{put-refusal, get-refusal, held-refusal}
+use Rattle.store.specs.Calls.{put-refusal, get-refusal, held-refusal, Refused}
 
 some-none : {X : Type 0} (x : X) → _≡_ {A = Option X} (Some x) None → ⊥
 some-none x e = let z : _≡_ {A = ℕ} 0 1 = cc in omega arith
@@ -86,3 +88,8 @@ put-full m c p n e z r =
     three-in (inside m c p) (eqb n (m .width)) (not (isSome (m .find c p)) && eqb (m .room) 0) (x .0) (x .1)
     ∙ ap (λ o. cond (not (isSome o) && eqb (m .room) 0) (Some Full) None) z
     ∙ ap (λ k. cond (eqb k 0) (Some Full) None) r
+
+-- what holds anyway is left by a refusal
+pub leaves : {X : Type 0} (r : Result X Refusal) {P : Type 0} → P → Refused r P
+leaves (Ok x) p = tt
+leaves (Err e) p = p
