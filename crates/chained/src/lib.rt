@@ -4,8 +4,9 @@
 //! that `measure` refuses it has an empty span and no room. The order of the records in a chain, and which record a key
 //! gets, may be changed here, as long as the contracts of `NodeStore` and of `new` stay.
 ghost use mathlib.Core.Path.{_≡_};
-ghost use mathlib.Core.Bool.{true};
+ghost use mathlib.Core.Bool.{true, cond};
 ghost use Prim.Native.Nat.{ℕ, _+_, _<_, _≤_};
+ghost use lib.Dec.{eqb};
 ghost use lib.ListN.{length, getD};
 ghost use Rattle.std.specs.declared.option.Option.the-variants.{None, Some};
 ghost use Rattle.std.specs.Of.Vec.{vec-items, vec-len};
@@ -137,33 +138,48 @@ fn front_of(memory: &mut [u8], at: usize, x: u32, b: usize, k: u32)
     write4(memory, 4 * b, x);
 }
 
-// Lays the chains out anew from the records alone, without those of closing c, or without all.
-fn relay(memory: &mut [u8], width: usize, count: u32, every: bool, c: u32)
-    requires narrow { ⌜ width ≤ 128 ⌝ }
+// n, and one more where the closing k is c.
+fn tallied(n: u32, k: u32, c: u32) -> u32
+    requires { ⌜ n < 4194304 ⌝ }
+    ensures { λ r. ⌜ r ≡ n + cond (eqb k c) 1 0 ⌝ }
+{
+    if k == c { n + 1 } else { n }
+}
+
+// Lays the chains out anew from the records alone, without those of closing c, or without all. One walk over the
+// records, which answers how many were of closing c.
+fn relay(memory: &mut [u8], width: usize, count: u32, every: bool, c: u32) -> u32
+    requires narrow { ⌜ (width ≤ 128) × (count ≤ 4194304) ⌝ }
     requires fits { ⌜ chained-bytes width count ≤ length (now memory) ⌝ }
+    ensures is { λ r. ⌜ r ≡ count-of (now (memory .entry)) width count c ⌝ }
     ensures laid { λ _. ⌜ Laid (now (memory .exit)) width count ⌝ }
     ensures nexts { λ _. ⌜ ((y : ℕ) → 1 ≤ y → y ≤ count → next-at (now (memory .exit)) width y ≤ count) ⌝ }
     ensures forgot { λ _. ⌜ Forgot (now (memory .entry)) (now (memory .exit)) width count count every c ⌝ }
 {
     zero_heads(memory);
     let mut at = 68;
+    let mut n = 0;
     for i in 0..count {
-        let k = kept(read4(memory, at + 4), c, every);
+        let closing = read4(memory, at + 4);
+        n = tallied(n, closing, c);
+        let k = kept(closing, c, every);
         let b = home(k, read4(memory, at + 8));
         front_of(memory, at, i + 1, b, k);
         at += 12 + width;
     }
+    n
 }
 
-fn relay_in(memory: &mut Vec<u8>, width: usize, count: u32, every: bool, c: u32)
-    requires narrow { ⌜ width ≤ 128 ⌝ }
+fn relay_in(memory: &mut Vec<u8>, width: usize, count: u32, every: bool, c: u32) -> u32
+    requires narrow { ⌜ (width ≤ 128) × (count ≤ 4194304) ⌝ }
     requires fits { ⌜ chained-bytes width count ≤ vec-len (now memory) ⌝ }
+    ensures is { λ r. ⌜ r ≡ count-of (vec-items (now (memory .entry))) width count c ⌝ }
     ensures len { λ _. ⌜ vec-len (now (memory .exit)) ≡ vec-len (now (memory .entry)) ⌝ }
     ensures laid { λ _. ⌜ Laid (vec-items (now (memory .exit))) width count ⌝ }
     ensures nexts { λ _. ⌜ ((y : ℕ) → 1 ≤ y → y ≤ count → next-at (vec-items (now (memory .exit))) width y ≤ count) ⌝ }
     ensures forgot { λ _. ⌜ Forgot (vec-items (now (memory .entry))) (vec-items (now (memory .exit))) width count count every c ⌝ }
 {
-    relay(memory, width, count, every, c);
+    relay(memory, width, count, every, c)
 }
 
 // Whether a store with these limits and so many records fits in so many bytes.
@@ -207,7 +223,7 @@ impl Chained {
         ensures kept { λ r. ⌜ vec-len (r .memory) ≡ vec-len memory ⌝ }
     {
         let mut memory = memory;
-        relay_in(&mut memory, limits.width, count, true, 0);
+        let _ = relay_in(&mut memory, limits.width, count, true, 0);
         Chained { memory, limits, count, room: count }
     }
 
@@ -342,8 +358,7 @@ impl Chained {
         requires { ⌜ spans (now self .limits .first) (now self .limits .last) closing ≡ true ⌝ }
         ensures { λ _. ⌜ Cleared (chained-meaning (now (self .entry))) (chained-meaning (now (self .exit))) closing ⌝ }
     {
-        let n = self.count_of(closing);
-        relay_in(&mut self.memory, self.limits.width, self.count, false, closing);
+        let n = relay_in(&mut self.memory, self.limits.width, self.count, false, closing);
         self.room += n;
     }
 }

@@ -15,7 +15,7 @@ tally-more f n = rw add-one
 abbrev bit : Bool → ℕ
 bit b = cond b 1 0
 
-bit-le : (b : Bool) → cond b 1 0 ≤ 1
+pub bit-le : (b : Bool) → cond b 1 0 ≤ 1
 bit-le true = omega arith
 bit-le false = omega arith
 

@@ -4,7 +4,7 @@ use Prim.Native.Nat.{ℕ, _≤_}
 use lib.ListN.{length, take, drop}
 use borrow.Author.Needs.{needs}
 use Rattle.std.proofs.shelf.Lists.{take-at}
-use Rattle.chained_theory.specs.Layout.{next-at}
+use Rattle.chained_theory.specs.Layout.{next-at, count-of}
 use Rattle.chained_theory.specs.Links.{Laid, Forgot}
 use Rattle.chained.proofs.relay_in.Needs as need
 
@@ -17,6 +17,7 @@ returns c =
     let t : List ℕ = take (c .args .memory .now .len) (m ++ drop (length m) (c .args .memory .now .items)) in
     let e : m ≡ t = sym (take-at m (drop (length m) (c .args .memory .now .items)) (c .args .memory .now .len) l) in
     record {
+      is = c .relay .ensures .is ∙ ap (λ xs. count-of xs w n (c .args .c)) (c .deref-mut .ensures .value);
       len = refl;
       laid = subst (λ xs. Laid xs w n) e (c .relay .ensures .laid);
       nexts = subst (λ xs. (y : ℕ) → 1 ≤ y → y ≤ n → next-at xs w y ≤ n) e (c .relay .ensures .nexts);

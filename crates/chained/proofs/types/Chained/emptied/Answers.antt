@@ -12,7 +12,7 @@ pub relay-in-requires : need.relay-in-requires
 relay-in-requires c κs =
     let n = c .args .limits in
     let v = chained-fits (n .width) (n .first) (n .last) (n .bound) (c .args .count) (vec-len (c .args .memory)) (c .pre) in
-    record { narrow = v .0 .narrow; fits = v .3 }
+    record { narrow = (v .0 .narrow, v .2); fits = v .3 }
 
 pub ghost-result : need.ghost-result
 ghost-result c =
