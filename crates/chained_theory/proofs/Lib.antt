@@ -1,0 +1,9 @@
+pub mod Walks
+pub mod Chains
+pub mod Fronts
+pub mod Writes
+pub mod Relays
+pub mod Puts
+pub mod Overwrites
+pub mod Clears
+pub mod Fits

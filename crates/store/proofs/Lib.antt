@@ -1,0 +1,5 @@
+pub mod Inside
+pub mod Tallies
+pub mod Refusals
+pub mod Rooms
+pub mod Props
