@@ -19,7 +19,6 @@ LARGEST_BOUND = 2**21
 MOST_RECORDS = 4_194_304
 MOST_STANDING = 8
 
-U8 = 2**8 - 1
 U32 = 2**32 - 1
 U64 = 2**64 - 1
 
@@ -601,14 +600,14 @@ def read_amount(word, kinds):
 
 
 STORE_PARTS = {
-    "flat": [U64, U32, U32, U32, U32],
-    "chained": [U64, U32, U32, U32, U32, U32],
+    "flat": [U64, U32, U32, U32],
+    "chained": [U64, U32, U32, U32, U32],
 }
 
 
-def read_store(word):
+def read_store(word, longest=U64):
     shape, *parts = word.split(":")
-    limits = read_name(shape, STORE_PARTS)
+    limits = read_name(shape, STORE_PARTS) + [longest]
     if len(parts) != len(limits):
         raise Unreadable
     numbers = [read_number(part, limit) for part, limit in zip(parts, limits)]
@@ -621,7 +620,7 @@ FORMS = {
     "digest": "bytes",
     "amount": "bytes",
     "join": "amount amount",
-    "measure": "store",
+    "measure": "measured-store",
     "store": "store",
     "put": "closing place bytes",
     "get": "closing place length",
@@ -645,7 +644,10 @@ FORMS = {
     "texts": "length",
 }
 
-NUMBERS = {"closing": U32, "place": U32, "leaf": U32, "length": U32, "depth": U8}
+# A store that is made has a memory of at most 32 bits; measuring takes any length.
+MEMORIES = {"store": U32, "measured-store": U64}
+
+NUMBERS = {"closing": U32, "place": U32, "leaf": U32, "length": U32, "depth": U32}
 
 
 def read_word(sort, word, kinds):
@@ -655,8 +657,8 @@ def read_word(sort, word, kinds):
         return read_bytes(word)
     if sort == "amount":
         return read_amount(word, kinds)
-    if sort == "store":
-        return read_store(word)
+    if sort in MEMORIES:
+        return read_store(word, MEMORIES[sort])
     return read_name(word, AMOUNT_KINDS if sort == "amount-kind" else DIGESTS)
 
 
@@ -851,7 +853,7 @@ class Session:
 
 
 def is_call(line):
-    return line != "" and not line.startswith("#")
+    return line.strip(" ") != "" and not line.startswith("#")
 
 
 def main():

@@ -8,11 +8,14 @@ ghost use Prim.Native.Nat.{_<_};
 ghost use lib.ListN.{length};
 
 mod calls;
+mod stores;
 mod words;
 
 use amount::Amount;
+use anystore::types::AnyStore;
 use calls::AmountKind;
 use calls::Call;
+use calls::Shape;
 use calls::read_call;
 use digest::AnyDigestDigest;
 use digest::Digest;
@@ -45,6 +48,7 @@ struct Chosen {
 struct Session {
     heap: Global,
     chosen: Option<Chosen>,
+    store: Option<AnyStore>,
 }
 
 #[derive(Drop)]
@@ -141,16 +145,43 @@ impl Session {
         }
     }
 
+    // Everything made before is gone.
+    fn choose(&mut self, chosen: Chosen) -> Result<Answer, AllocError> {
+        self.chosen = Some(chosen);
+        self.store = None;
+        said(self.heap, "ready")
+    }
+
+    fn make_store(&mut self, shape: Shape) -> Result<Answer, AllocError> {
+        self.store = Some(stores::made(self.heap, shape)?);
+        said(self.heap, "store")
+    }
+
+    // A call to the store by itself.
+    fn to_store(&mut self, call: Call) -> Result<Answer, AllocError> {
+        let heap = self.heap;
+        let Some(store) = &mut self.store else {
+            return Ok(Answer::NotNow);
+        };
+        match call {
+            Call::Put(closing, place, record) => stores::put(heap, store, closing, place, &record),
+            Call::Get(closing, place, len) => stores::get(heap, store, closing, place, len),
+            Call::Held(closing) => stores::held(heap, store, closing),
+            Call::Clear(closing) => stores::clear(heap, store, closing),
+            Call::Room => stores::room(heap, store),
+            _ => Ok(Answer::NotNow),
+        }
+    }
+
     fn answer(&mut self, call: Call) -> Result<Answer, AllocError> {
         match call {
-            Call::Use(amount, digest) => {
-                self.chosen = Some(Chosen { amount, digest });
-                said(self.heap, "ready")
-            }
+            Call::Use(amount, digest) => self.choose(Chosen { amount, digest }),
             Call::Digest(text) => self.digest(&text),
             Call::Amount(text) => self.amount(&text),
             Call::Join(left, right) => self.join(&left, &right),
-            _ => Ok(Answer::NotNow),
+            Call::Measure(shape) => stores::done(self.heap, stores::measured(shape), "fits"),
+            Call::Store(shape) => self.make_store(shape),
+            other => self.to_store(other),
         }
     }
 
@@ -181,7 +212,7 @@ fn show<W: Write>(out: &mut W, answer: Answer) -> std::io::Result<()> {
 fn script(rt: &LibcRuntime) -> Result<(), AnyError> {
     let heap = rt.alloc();
     let mut out = BufWriter::new(rt.stdout());
-    let mut session = Session { heap, chosen: None };
+    let mut session = Session { heap, chosen: None, store: None };
     for line in BufReader::new(rt.stdin()).split(heap, b'\n') {
         if let Some(answer) = session.line(&line?)? {
             show(&mut out, answer)?;
