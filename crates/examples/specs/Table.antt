@@ -10,7 +10,7 @@ use Rattle.refusal.specs.Tables.{is-refusal}
 use Rattle.amount.specs.Kinds.{join-refusal}
 use Rattle.amount.specs.Rows.{single}
 use Rattle.digest.specs.Digests.{rehearsed, rehearsal}
-use Rattle.tree.specs.Texts.{Line, Node}
+use Rattle.node.specs.Texts.{Line, Node}
 use Rattle.tree.specs.Trees.{node-at}
 
 -- the largest amount

@@ -212,7 +212,11 @@ fn show<W: Write>(out: &mut W, answer: Answer) -> std::io::Result<()> {
 fn script(rt: &LibcRuntime) -> Result<(), AnyError> {
     let heap = rt.alloc();
     let mut out = BufWriter::new(rt.stdout());
-    let mut session = Session { heap, chosen: None, store: None };
+    let mut session = Session {
+        heap,
+        chosen: None,
+        store: None,
+    };
     for line in BufReader::new(rt.stdin()).split(heap, b'\n') {
         if let Some(answer) = session.line(&line?)? {
             show(&mut out, answer)?;

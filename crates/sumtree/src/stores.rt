@@ -1,11 +1,11 @@
 //! A store by itself, as a script makes and calls it.
-use crate::calls::Shape;
-use crate::said;
-use crate::refused;
 use crate::Answer;
+use crate::calls::Shape;
+use crate::refused;
+use crate::said;
 use crate::words::show_bytes;
-use anystore::types::AnyStore;
 use anystore::AnyNodeStore;
+use anystore::types::AnyStore;
 use chained::types::Chained;
 use flat::types::Flat;
 use numbering::Closing;
@@ -14,11 +14,16 @@ use numbering::Place;
 use refusal::cases::Refusal;
 use std::alloc::AllocError;
 use std::alloc::Global;
-use store::limits::Limits;
 use store::NodeStore;
+use store::limits::Limits;
 
 fn limits_of(shape: Shape) -> Limits {
-    Limits { width: shape.width as usize, first: shape.first, last: shape.last, bound: shape.bound }
+    Limits {
+        width: shape.width as usize,
+        first: shape.first,
+        last: shape.last,
+        bound: shape.bound,
+    }
 }
 
 pub(crate) fn measured(shape: Shape) -> Result<(), Refusal> {
@@ -45,14 +50,29 @@ pub(crate) fn done(heap: Global, r: Result<(), Refusal>, word: &str) -> Result<A
 }
 
 fn key(closing: u32, place: u32) -> Key {
-    Key { closing: Closing(closing), place: Place(place) }
+    Key {
+        closing: Closing(closing),
+        place: Place(place),
+    }
 }
 
-pub(crate) fn put(heap: Global, store: &mut AnyStore, closing: u32, place: u32, record: &[u8]) -> Result<Answer, AllocError> {
+pub(crate) fn put(
+    heap: Global,
+    store: &mut AnyStore,
+    closing: u32,
+    place: u32,
+    record: &[u8],
+) -> Result<Answer, AllocError> {
     done(heap, store.put(key(closing, place), record), "put")
 }
 
-pub(crate) fn get(heap: Global, store: &mut AnyStore, closing: u32, place: u32, len: u32) -> Result<Answer, AllocError> {
+pub(crate) fn get(
+    heap: Global,
+    store: &mut AnyStore,
+    closing: u32,
+    place: u32,
+    len: u32,
+) -> Result<Answer, AllocError> {
     let mut buffer = vec![in heap; 0xee; len as usize]?;
     match store.get(key(closing, place), &mut buffer) {
         Ok(found) => {
@@ -71,7 +91,11 @@ pub(crate) fn held(heap: Global, store: &AnyStore, closing: u32) -> Result<Answe
     }
 }
 
-pub(crate) fn clear(heap: Global, store: &mut AnyStore, closing: u32) -> Result<Answer, AllocError> {
+pub(crate) fn clear(
+    heap: Global,
+    store: &mut AnyStore,
+    closing: u32,
+) -> Result<Answer, AllocError> {
     done(heap, store.clear(Closing(closing)), "cleared")
 }
 

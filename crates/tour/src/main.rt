@@ -1,13 +1,25 @@
-//! A tour of the library: one ledger from its lines to the root and the total that go into the notice.
+//! A tour of the library: one ledger from its lines, node by node, to the root and the total that go into the notice.
 //!
 //! It reads data/ledger.txt (a closing and a depth, then a line for each balance: customer number, salt and cents) and
 //! prints every step, so that a person can follow it.
 use amount::Amount;
 use digest::Sha256Digest;
 use digest::kinds::Sha256;
+use flat::FlatNodeStore;
+use flat::types::Flat;
 use hex::Hex;
 use hex::HexDisplay;
+use node::inner;
+use node::leaf;
+use node::padding;
+use node::read_node;
+use node::types::Line;
+use node::types::Node;
+use node::write_node;
 use numbering::Closing;
+use numbering::Key;
+use numbering::Leaf;
+use numbering::Place;
 use refusal::RefusalDisplay;
 use refusal::cases::Refusal;
 use single::Single;
@@ -16,9 +28,9 @@ use std::alloc::Global;
 use std::error::AnyError;
 use std::fs;
 use std::io;
+use store::NodeStore;
+use store::limits::Limits;
 use tree::tree_node;
-use tree::types::Line;
-use tree::types::Node;
 
 #[derive(Drop)]
 struct Ledger {
@@ -93,10 +105,120 @@ fn show_line(rt: &LibcRuntime, n: usize, line: &Line<Single>) -> io::Result<()> 
     )
 }
 
-fn show_node(rt: &LibcRuntime, name: &str, n: u32, node: &Node<Single>) -> io::Result<()> {
+fn show_node(
+    rt: &LibcRuntime,
+    name: &str,
+    n: u32,
+    place: u32,
+    node: &Node<Single>,
+) -> io::Result<()> {
     let digest = Hex(&node.digest);
     let cents = node.amount.cents;
-    println!(rt, "  {name} {n}: {digest}, {cents} cents")
+    println!(rt, "  {name} {n}, place {place}: {digest}, {cents} cents")
+}
+
+// A flat store with room for the nodes of one closing: a digest and eight bytes of cents each.
+fn node_store(heap: Global, closing: Closing, depth: u32) -> Result<Flat, AnyError> {
+    if depth > 20 {
+        return Err("the depth is over 20".into());
+    }
+    let bound = 2 << depth;
+    let limits = Limits {
+        width: 40,
+        first: closing.0,
+        last: closing.0,
+        bound,
+    };
+    let memory = vec![in heap; 0; bound as usize * 41]?;
+    if flat::measure(limits, memory.len()).is_err() {
+        return Err("no store has these limits".into());
+    }
+    Ok(Flat::new(memory, limits))
+}
+
+// Keeps a node under its closing and its place.
+fn keep(
+    store: &mut Flat,
+    closing: Closing,
+    place: u32,
+    node: &Node<Single>,
+) -> Result<(), Refusal> {
+    let mut record = [0u8; 40];
+    let _ = write_node(node, &mut record)?;
+    store.put(
+        Key {
+            closing,
+            place: Place(place),
+        },
+        &record,
+    )
+}
+
+// The node kept there.
+fn fetch(store: &mut Flat, closing: Closing, place: u32) -> Result<Node<Single>, Refusal> {
+    let mut record = [0u8; 40];
+    if !store.get(
+        Key {
+            closing,
+            place: Place(place),
+        },
+        &mut record,
+    )? {
+        return Err(Refusal::NotStanding);
+    }
+    read_node(&record)
+}
+
+fn leaf_node(ledger: &Ledger, n: u32) -> Node<Single> {
+    let i = n as usize;
+    if i < ledger.lines.len() {
+        leaf(&Sha256, ledger.closing, &ledger.lines[i])
+    } else {
+        padding(&Sha256, ledger.closing, Leaf(n))
+    }
+}
+
+// Keeps the leaves of the tree; leaf n stands at place 2^depth + n.
+fn keep_leaves(rt: &LibcRuntime, store: &mut Flat, ledger: &Ledger) -> Result<(), AnyError> {
+    println!(rt, "height 0:")?;
+    for n in 0..level_len(ledger.depth, 0) {
+        let node = leaf_node(ledger, n);
+        let name = if (n as usize) < ledger.lines.len() {
+            "leaf"
+        } else {
+            "padding"
+        };
+        let place = level_len(ledger.depth, 0) | n;
+        show_node(rt, name, n, place, &node)?;
+        let kept = keep(store, ledger.closing, place, &node);
+        answered(rt, kept)?;
+    }
+    Ok(())
+}
+
+// The node over the two below a place, which are fetched from the store.
+fn inner_node(store: &mut Flat, closing: Closing, place: u32) -> Result<Node<Single>, Refusal> {
+    let left = fetch(store, closing, place.saturating_mul(2))?;
+    let right = fetch(store, closing, place.saturating_mul(2) | 1)?;
+    inner(&Sha256, &left, &right)
+}
+
+// Keeps the nodes of a height, each made from the two below it.
+fn keep_level(
+    rt: &LibcRuntime,
+    store: &mut Flat,
+    ledger: &Ledger,
+    height: u32,
+) -> Result<(), AnyError> {
+    println!(rt, "height {height}:")?;
+    for n in 0..level_len(ledger.depth, height) {
+        let place = level_len(ledger.depth, height) | n;
+        let node = answered(rt, inner_node(store, ledger.closing, place))?;
+        show_node(rt, "node", n, place, &node)?;
+        let kept = keep(store, ledger.closing, place, &node);
+        answered(rt, kept)?;
+    }
+    Ok(())
 }
 
 // How many nodes a height has.
@@ -108,46 +230,15 @@ fn level_len(depth: u32, height: u32) -> u32 {
     }
 }
 
-fn node_of(
-    rt: &LibcRuntime,
-    ledger: &Ledger,
-    height: u32,
-    n: u32,
-) -> Result<Node<Single>, AnyError> {
-    match tree_node(
-        &Sha256,
-        ledger.closing,
-        ledger.depth,
-        &ledger.lines,
-        height,
-        n,
-    ) {
-        Ok(node) => Ok(node),
+// The answer, or the end of the tour with the refusal in words.
+fn answered<T>(rt: &LibcRuntime, answer: Result<T, Refusal>) -> Result<T, AnyError> {
+    match answer {
+        Ok(x) => Ok(x),
         Err(r) => {
             println!(rt, "{r}")?;
-            Err("the ledger has no such node".into())
+            Err("a call was refused".into())
         }
     }
-}
-
-fn leaf_name(ledger: &Ledger, height: u32, n: u32) -> &'static str {
-    if height > 0 {
-        return "node";
-    }
-    if (n as usize) < ledger.lines.len() {
-        "leaf"
-    } else {
-        "padding"
-    }
-}
-
-fn show_level(rt: &LibcRuntime, ledger: &Ledger, height: u32) -> Result<(), AnyError> {
-    println!(rt, "height {height}:")?;
-    for n in 0..level_len(ledger.depth, height) {
-        let node = node_of(rt, ledger, height, n)?;
-        show_node(rt, leaf_name(ledger, height, n), n, &node)?;
-    }
-    Ok(())
 }
 
 fn show_lines(rt: &LibcRuntime, ledger: &Ledger) -> io::Result<()> {
@@ -163,23 +254,52 @@ fn show_lines(rt: &LibcRuntime, ledger: &Ledger) -> io::Result<()> {
     println!(rt)
 }
 
-fn show_tree(rt: &LibcRuntime, ledger: &Ledger) -> Result<(), AnyError> {
+fn build_tree(rt: &LibcRuntime, store: &mut Flat, ledger: &Ledger) -> Result<(), AnyError> {
     println!(
         rt,
-        "The tree, from the leaves up: each node is the SHA-256 of its text, and the sum below it."
+        "The tree, from the leaves up. Each node is the SHA-256 of its text, and the sum below it,"
     )?;
-    for height in 0..ledger.depth.min(20) + 1 {
-        show_level(rt, ledger, height)?;
+    println!(
+        rt,
+        "and is kept in a store under the closing and its place."
+    )?;
+    keep_leaves(rt, store, ledger)?;
+    for height in 1..ledger.depth.min(20) + 1 {
+        keep_level(rt, store, ledger, height)?;
     }
+    let closing = ledger.closing;
+    let held = answered(rt, store.held(closing))?;
+    let room = store.room();
+    println!(
+        rt,
+        "The store holds {held} nodes of this closing, and has room for {room} more."
+    )?;
     println!(rt)?;
     Ok(())
 }
 
-fn show_notice(rt: &LibcRuntime, ledger: &Ledger) -> Result<(), AnyError> {
-    let root = node_of(rt, ledger, ledger.depth, 0)?;
+fn show_notice(rt: &LibcRuntime, store: &mut Flat, ledger: &Ledger) -> Result<(), AnyError> {
+    let root = answered(rt, fetch(store, ledger.closing, 1))?;
+    let again = answered(
+        rt,
+        tree_node(
+            &Sha256,
+            ledger.closing,
+            ledger.depth,
+            &ledger.lines,
+            ledger.depth,
+            0,
+        ),
+    )?;
+    if root.digest != again.digest {
+        return Err("the store has another root than the ledger".into());
+    }
     let digest = Hex(&root.digest);
     let cents = root.amount.cents;
-    println!(rt, "For the notice:")?;
+    println!(
+        rt,
+        "For the notice, from the store and once more from the lines alone:"
+    )?;
     println!(rt, "  root  {digest}")?;
     println!(rt, "  total {cents} cents")?;
     Ok(())
@@ -189,8 +309,9 @@ fn tour(rt: &LibcRuntime) -> Result<(), AnyError> {
     let text = fs::read_to_string(rt, "ledger.txt")?;
     let ledger = read_ledger(rt.alloc(), &text)?;
     show_lines(rt, &ledger)?;
-    show_tree(rt, &ledger)?;
-    show_notice(rt, &ledger)
+    let mut store = node_store(rt.alloc(), ledger.closing, ledger.depth)?;
+    build_tree(rt, &mut store, &ledger)?;
+    show_notice(rt, &mut store, &ledger)
 }
 
 fn main(rt: LibcRuntime) -> Result<(), AnyError> {

@@ -20,7 +20,7 @@ use Rattle.refusal.specs.Tables.{_⇒_, first, Answers}
 use Rattle.amount.specs.Kinds.{Kind, Laws}
 use Rattle.amount.proofs.Joins as joins
 use Rattle.digest.specs.Hashes.{Hash}
-use Rattle.tree.specs.Texts.{Line, Node, inner-node}
+use Rattle.node.specs.Texts.{Line, Node, inner-node}
 use Rattle.tree.specs.Trees.{leaf-at, node-at, bad-limits}
 
 -- line n of lines that are mapped

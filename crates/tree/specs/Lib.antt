@@ -1,3 +1,1 @@
-pub mod Texts
 pub mod Trees
-pub mod Meant

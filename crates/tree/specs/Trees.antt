@@ -12,7 +12,7 @@ use Rattle.refusal.specs.declared.cases.Refusal.the-variants.{BadLimits, Leaves
 use Rattle.refusal.specs.Tables.{_⇒_, first}
 use Rattle.amount.specs.Kinds.{Kind}
 use Rattle.digest.specs.Hashes.{Hash}
-use Rattle.tree.specs.Texts.{Line, Node, leaf-node, padding-node, inner-node}
+use Rattle.node.specs.Texts.{Line, Node, leaf-node, padding-node, inner-node}
 
 -- a closing and a depth that a tree can have
 abbrev pub bad-limits : ℕ → ℕ → Bool

@@ -3,8 +3,8 @@ use Prim.Native.Nat.{ℕ, suc, _+_, _-_, _*_, _^_, _<_, _≤_}
 use native.Mathlib.Omega.{arith}
 use lib.Dec.{T}
 use Rattle.refusal.proofs.Exits.{handed-on}
-use Rattle.tree.specs.Texts.{Line, Node}
-use Rattle.tree.specs.Meant.{line-of, node-of, lines-of}
+use Rattle.node.specs.Texts.{Line, Node}
+use Rattle.node.specs.Meant.{line-of, node-of, lines-of}
 use Rattle.tree.proofs.Subtrees.{halves, nth-each, refused-left, refused-right, over-both}
 use Rattle.tree.proofs.+subtree.Needs as need
 

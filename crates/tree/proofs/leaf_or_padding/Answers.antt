@@ -1,5 +1,5 @@
 use mathlib.Core.Path.{_≡_, sym, ap, _∙_}
-use Rattle.tree.specs.Meant.{line-of, lines-of}
+use Rattle.node.specs.Meant.{line-of, lines-of}
 use Rattle.tree.specs.Trees.{leaf-at}
 use Rattle.tree.proofs.Subtrees.{nth-line, nth-none}
 use Rattle.tree.proofs.leaf_or_padding.Needs as need

@@ -5,7 +5,7 @@ use Prim.Native.Nat.{ℕ, _+_, _-_, _*_, _^_, _<_, _≤_}
 use lib.Dec.{ltb, leb}
 use lib.ListN.{length}
 use Rattle.tree.specs.Trees.{bad-limits}
-use Rattle.tree.specs.Meant.{line-of, lines-of}
+use Rattle.node.specs.Meant.{line-of, lines-of}
 use Rattle.tree.proofs.Subtrees.{many, few, has-node}
 use Rattle.tree.proofs.tree_node.Needs as need
 

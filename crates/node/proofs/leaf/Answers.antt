@@ -4,9 +4,9 @@ use Prim.Native.Nat.{ℕ}
 use lib.ListN.{take}
 use Rattle.bytes.specs.BigEndian.{be}
 use Rattle.bytes.proofs.Numbers.{be-4}
-use Rattle.tree.specs.Texts.{Node}
-use Rattle.tree.proofs.Parts.{four-parts}
-use Rattle.tree.proofs.leaf.Needs as need
+use Rattle.node.specs.Texts.{Node}
+use Rattle.node.proofs.Parts.{four-parts}
+use Rattle.node.proofs.leaf.Needs as need
 
 pub returns : need.returns
 returns g c =

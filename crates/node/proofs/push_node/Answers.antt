@@ -4,7 +4,7 @@ use Prim.Native.Nat.{_+_}
 use native.Mathlib.Omega.{arith}
 use borrow.Author.Needs.{needs}
 use lib.ListN.{length, take}
-use Rattle.tree.proofs.push_node.Needs as need
+use Rattle.node.proofs.push_node.Needs as need
 
 pub returns : need.returns
 returns g c =

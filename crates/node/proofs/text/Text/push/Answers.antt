@@ -6,7 +6,7 @@ use borrow.Author.Needs.{needs}
 use lib.ListN.{length, take}
 use Prim.Native.Nat.{_≤_}
 use Rattle.std.proofs.shelf.Parts.{take-putMid}
-use Rattle.tree.proofs.text.Text.push.Needs as need
+use Rattle.node.proofs.text.Text.push.Needs as need
 
 pub returns : need.returns
 returns c =

@@ -1,6 +1,9 @@
 -- The texts that are hashed, and the nodes that they make.
 use mathlib.Core.List.{List, [], _∷_, _++_}
-use Prim.Native.Nat.{ℕ}
+use Prim.Native.Nat.{ℕ, _+_}
+use lib.ListN.{take, drop}
+use Rattle.std.specs.Options.{mapped}
+use Rattle.std.specs.declared.option.Option.{Option}
 use Rattle.bytes.specs.BigEndian.{be}
 use Rattle.amount.specs.Kinds.{Kind}
 use Rattle.digest.specs.Hashes.{Hash}
@@ -18,6 +21,10 @@ pub record Node : Type 0 where
 
 abbrev pub node-bytes : Kind → Node → List ℕ
 node-bytes k n = n .digest ++ k .bytes (n .amount)
+
+-- the node that bytes say, where they say one
+abbrev pub read-node : Kind → List ℕ → Option Node
+read-node k s = mapped (λ (a : List ℕ). record { digest = take 32 s; amount = a }) (k .read (drop 32 s))
 
 abbrev pub leaf-text : Kind → ℕ → Line → List ℕ
 leaf-text k closing l = 0 ∷ (be 4 closing ++ (l .customer ++ (l .salt ++ k .bytes (l .balance))))

@@ -6,7 +6,7 @@ use borrow.Author.Needs.{needs}
 use lib.ListN.{length, take, drop, length-take}
 use Rattle.std.proofs.shelf.Parts.{take-putMid}
 use Rattle.refusal.proofs.Buffers.{written-all}
-use Rattle.tree.proofs.text.Text.push_amount.Needs as need
+use Rattle.node.proofs.text.Text.push_amount.Needs as need
 
 pub returns : need.returns
 returns g c =

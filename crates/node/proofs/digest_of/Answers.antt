@@ -4,7 +4,7 @@ use native.Mathlib.Omega.{arith}
 use borrow.Author.Needs.{needs}
 use lib.ListN.{length, take, length-take}
 use Rattle.digest.proofs.Short.{not-refused}
-use Rattle.tree.proofs.digest_of.Needs as need
+use Rattle.node.proofs.digest_of.Needs as need
 
 pub unreachable-requires : need.unreachable-requires
 unreachable-requires g c κs =

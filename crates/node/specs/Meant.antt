@@ -1,9 +1,9 @@
 -- What lines and nodes of the code mean.
 use mathlib.Core.List.{List, map}
 use Prim.Native.Nat.{ℕ}
-use Rattle.tree.specs.declared.types.Line as code-line
-use Rattle.tree.specs.declared.types.Node as code-node
-use Rattle.tree.specs.Texts.{Line, Node}
+use Rattle.node.specs.declared.types.Line as code-line
+use Rattle.node.specs.declared.types.Node as code-node
+use Rattle.node.specs.Texts.{Line, Node}
 
 module _ {A : Type 0} (meaning : A → List ℕ) where
   abbrev pub line-of : code-line.Line A → Line
