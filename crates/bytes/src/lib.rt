@@ -5,8 +5,9 @@
 ghost use mathlib.Core.Path.{_≡_};
 ghost use Prim.Native.Nat.{ℕ, _<_};
 ghost use mathlib.Core.List.{List};
-ghost use lib.ListN.{length};
-ghost use Rattle.bytes.specs.BigEndian.{be};
+ghost use lib.ListN.{length, take};
+ghost use Rattle.std.specs.Options.{Cases as BySome};
+ghost use Rattle.bytes.specs.BigEndian.{be, value};
 
 // The four bytes of a number, the highest first.
 pub fn be4(x: u32) -> [u8; 4]
@@ -20,4 +21,14 @@ pub fn be8(x: u64) -> [u8; 8]
     ensures { λ r. ⌜ r ≡ be 8 x ⌝ }
 {
     u64::to_be_bytes(x)
+}
+
+// The number that the first four bytes write, where there are four.
+pub fn read4(s: &[u8]) -> Option<u32>
+    ensures { λ r. ⌜ BySome r (length (now (s .entry)) < 4) (λ n. n ≡ value (take 4 (now (s .entry)))) ⌝ }
+{
+    let [a, b, c, d, ..] = s else {
+        return None;
+    };
+    Some(u32::from_be_bytes([*a, *b, *c, *d]))
 }
