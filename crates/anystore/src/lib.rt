@@ -10,8 +10,8 @@ use flat::FlatNodeStore;
 use numbering::Closing;
 use numbering::Key;
 use refusal::cases::Refusal;
-use store::limits::Limits;
 use store::NodeStore;
+use store::limits::Limits;
 use types::AnyStore;
 
 pub impl NodeStore for AnyStore as AnyNodeStore {

@@ -26,8 +26,8 @@ pub mod types;
 use numbering::Closing;
 use numbering::Key;
 use refusal::cases::Refusal;
-use store::limits::Limits;
 use store::NodeStore;
+use store::limits::Limits;
 use types::Chained;
 
 // The number of four bytes at `at`.
@@ -111,7 +111,11 @@ fn kept(k: u32, c: u32, every: bool) -> u32
 fn home(k: u32, p: u32) -> usize
     ensures { λ r. ⌜ r ≡ home-of k p ⌝ }
 {
-    if k == 0 { 0 } else { ((k % 16 + p % 16) % 16 + 1) as usize }
+    if k == 0 {
+        0
+    } else {
+        ((k % 16 + p % 16) % 16 + 1) as usize
+    }
 }
 
 // Empties the seventeen chains.
@@ -189,7 +193,11 @@ pub fn measure(limits: Limits, count: u32, memory: usize) -> Result<(), Refusal>
     if !limits.valid() || count < 1 || 4_194_304 < count {
         return Err(Refusal::MemoryUnfit);
     }
-    if 68 + count as usize * (12 + limits.width) <= memory { Ok(()) } else { Err(Refusal::MemoryUnfit) }
+    if 68 + count as usize * (12 + limits.width) <= memory {
+        Ok(())
+    } else {
+        Err(Refusal::MemoryUnfit)
+    }
 }
 
 impl Chained {
@@ -212,8 +220,18 @@ impl Chained {
         ensures is { λ r. ⌜ Empty (chained-meaning r) 1 1 0 2 0 ⌝ }
         ensures kept { λ r. ⌜ vec-len (r .memory) ≡ vec-len memory ⌝ }
     {
-        let limits = Limits { width: 1, first: 1, last: 0, bound: 2 };
-        Chained { memory, limits, count: 0, room: 0 }
+        let limits = Limits {
+            width: 1,
+            first: 1,
+            last: 0,
+            bound: 2,
+        };
+        Chained {
+            memory,
+            limits,
+            count: 0,
+            room: 0,
+        }
     }
 
     // The store on a memory that fits, with every record free.
@@ -224,7 +242,12 @@ impl Chained {
     {
         let mut memory = memory;
         let _ = relay_in(&mut memory, limits.width, count, true, 0);
-        Chained { memory, limits, count, room: count }
+        Chained {
+            memory,
+            limits,
+            count,
+            room: count,
+        }
     }
 
     // The memory that the store lay in.
@@ -329,7 +352,15 @@ impl Chained {
         let p = key.place.0;
         let x = self.head(0);
         let at = self.at(x);
-        push_in(&mut self.memory, at, x, ((c + p) % 16 + 1) as usize, c, p, bytes);
+        push_in(
+            &mut self.memory,
+            at,
+            x,
+            ((c + p) % 16 + 1) as usize,
+            c,
+            p,
+            bytes,
+        );
         self.room -= 1;
     }
 
@@ -358,7 +389,13 @@ impl Chained {
         requires { ⌜ spans (now self .limits .first) (now self .limits .last) closing ≡ true ⌝ }
         ensures { λ _. ⌜ Cleared (chained-meaning (now (self .entry))) (chained-meaning (now (self .exit))) closing ⌝ }
     {
-        let n = relay_in(&mut self.memory, self.limits.width, self.count, false, closing);
+        let n = relay_in(
+            &mut self.memory,
+            self.limits.width,
+            self.count,
+            false,
+            closing,
+        );
         self.room += n;
     }
 }

@@ -5,7 +5,6 @@ ghost use Prim.Native.Nat.{ℕ, _<_, _≤_};
 ghost use Rattle.std.specs.Of.Vec.{vec-items, vec-len};
 ghost use Rattle.chained_theory.specs.Layout.{chained-bytes, head-at, next-at};
 ghost use Rattle.chained_theory.specs.Links.{Linked};
-
 use store::limits::Limits;
 
 #[derive(Drop)]

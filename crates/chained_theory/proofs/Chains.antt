@@ -70,9 +70,10 @@ pub scan-none : (mem : List ℕ) (w n c p : ℕ) → scan-at mem w n c p ≡ 0 �
 scan-none mem w zero c p e y a b = let z : ⊥ = omega arith in absurd z
 scan-none mem w (suc n) c p e y a b =
     elim (cases-bool (has-key mem w (suc n) c p)) [
-      inl t ↦ (let z : ⊥ = omega (arith, cond-true {A = ℕ} (has-key mem w (suc n) c p) (suc n) (scan-at mem w n c p) t) in absurd z)
-    | inr t ↦ (let rest : scan-at mem w n c p ≡ 0 = sym (cond-false (has-key mem w (suc n) c p) (suc n) (scan-at mem w n c p) t) ∙ e in
-        elim (cases-eq y (suc n)) [ inl s ↦ ap (λ k. has-key mem w k c p) s ∙ t | inr d ↦ scan-none mem w n c p rest y a (omega arith) ]) ]
+      | inl t ↦ (let z : ⊥ = omega (arith, cond-true {A = ℕ} (has-key mem w (suc n) c p) (suc n) (scan-at mem w n c p) t) in absurd z)
+      | inr t ↦ (let rest : scan-at mem w n c p ≡ 0 = sym (cond-false (has-key mem w (suc n) c p) (suc n) (scan-at mem w n c p) t) ∙ e in
+          elim (cases-eq y (suc n)) [ inl s ↦ ap (λ k. has-key mem w k c p) s ∙ t | inr d ↦ scan-none mem w n c p rest y a (omega arith) ])
+    ]
 
 pub no-scan : (mem : List ℕ) (w n c p : ℕ) → ((y : ℕ) → 1 ≤ y → y ≤ n → has-key mem w y c p ≡ false) → scan-at mem w n c p ≡ 0
 no-scan mem w zero c p h = refl
@@ -82,10 +83,11 @@ pub scan-has : (mem : List ℕ) (w n c p : ℕ) → (scan-at mem w n c p ≡ 0 �
 scan-has mem w zero c p ne = absurd (ne refl)
 scan-has mem w (suc n) c p ne =
     elim (cases-bool (has-key mem w (suc n) c p)) [
-      inl t ↦ (let here : scan-at mem w (suc n) c p ≡ suc n = cond-true (has-key mem w (suc n) c p) (suc n) _ t in (ap (λ z. has-key mem w z c p) here ∙ t, omega (arith, here)))
-    | inr t ↦ (let on : scan-at mem w (suc n) c p ≡ scan-at mem w n c p = cond-false (has-key mem w (suc n) c p) (suc n) _ t in
-        let rest = scan-has mem w n c p (λ e. ne (on ∙ e)) in
-        (ap (λ z. has-key mem w z c p) on ∙ rest .0, omega (arith, on, rest .1))) ]
+      | inl t ↦ (let here : scan-at mem w (suc n) c p ≡ suc n = cond-true (has-key mem w (suc n) c p) (suc n) _ t in (ap (λ z. has-key mem w z c p) here ∙ t, omega (arith, here)))
+      | inr t ↦ (let on : scan-at mem w (suc n) c p ≡ scan-at mem w n c p = cond-false (has-key mem w (suc n) c p) (suc n) _ t in
+          let rest = scan-has mem w n c p (λ e. ne (on ∙ e)) in
+          (ap (λ z. has-key mem w z c p) on ∙ rest .0, omega (arith, on, rest .1)))
+    ]
 
 -- a key that no record had, and one has now
 pub scan-new : (mem mem′ : List ℕ) (w n c p x : ℕ) → 1 ≤ x → x ≤ n → has-key mem′ w x c p ≡ true → scan-at mem w n c p ≡ 0
@@ -93,11 +95,12 @@ pub scan-new : (mem mem′ : List ℕ) (w n c p x : ℕ) → 1 ≤ x → x ≤ n
 scan-new mem mem′ w zero c p x a b t e s = let z : ⊥ = omega arith in absurd z
 scan-new mem mem′ w (suc n) c p x a b t e s =
     elim (cases-eq x (suc n)) [
-      inl q ↦ cond-true (has-key mem′ w (suc n) c p) (suc n) (scan-at mem′ w n c p) (ap (λ k. has-key mem′ w k c p) (sym q) ∙ t) ∙ sym q
-    | inr d ↦ (let was : has-key mem w (suc n) c p ≡ false = scan-none mem w (suc n) c p e (suc n) (omega arith) (omega arith) in
-        let rest : scan-at mem w n c p ≡ 0 = sym (cond-false (has-key mem w (suc n) c p) (suc n) (scan-at mem w n c p) was) ∙ e in
-        cond-false (has-key mem′ w (suc n) c p) (suc n) (scan-at mem′ w n c p) (s (suc n) (omega arith) (omega arith) (λ q. d (sym q)) ∙ was)
-        ∙ scan-new mem mem′ w n c p x a (omega arith) t rest (λ y u v. s y u (omega arith))) ]
+      | inl q ↦ cond-true (has-key mem′ w (suc n) c p) (suc n) (scan-at mem′ w n c p) (ap (λ k. has-key mem′ w k c p) (sym q) ∙ t) ∙ sym q
+      | inr d ↦ (let was : has-key mem w (suc n) c p ≡ false = scan-none mem w (suc n) c p e (suc n) (omega arith) (omega arith) in
+          let rest : scan-at mem w n c p ≡ 0 = sym (cond-false (has-key mem w (suc n) c p) (suc n) (scan-at mem w n c p) was) ∙ e in
+          cond-false (has-key mem′ w (suc n) c p) (suc n) (scan-at mem′ w n c p) (s (suc n) (omega arith) (omega arith) (λ q. d (sym q)) ∙ was)
+          ∙ scan-new mem mem′ w n c p x a (omega arith) t rest (λ y u v. s y u (omega arith)))
+    ]
 
 pub has-parts : (mem : List ℕ) (w y c p : ℕ) → has-key mem w y c p ≡ true → (closing-at mem w y ≡ c) × (place-at mem w y ≡ p)
 has-parts mem w y c p t = let b = and-parts (eqb (closing-at mem w y) c) (eqb (place-at mem w y) p) t in (eqb-true _ c (b .0), eqb-true _ p (b .1))

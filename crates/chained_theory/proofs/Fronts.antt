@@ -50,29 +50,33 @@ module _ (mem mem′ : List ℕ) (w n n′ x b : ℕ) (hd : ℕ → ℕ) (base :
   links′ j h =
       let stay : Links mem′ w n′ (hd j) (base j) = links-stay mem mem′ w n n′ x (o .more) (o .same) (hd j) (base j) (o .fresh j h) (o .links j h) in
       elim (cases-eq j b) [
-        inl e ↦ (let here : Links mem′ w n′ (head-at mem′ j) (x ∷ base j) = (ap (head-at mem′) e ∙ o .headb, o .low, o .high, subst (λ i. Links mem′ w n′ i (base j)) (ap hd e ∙ sym (o .next)) stay) in
-          subst (λ xs. Links mem′ w n′ (head-at mem′ j) xs) (sym (at-b j e)) here)
-      | inr d ↦ subst (λ xs. Links mem′ w n′ (head-at mem′ j) xs) (sym (off-b j d)) (subst (λ i. Links mem′ w n′ i (base j)) (sym (o .heads j h d)) stay) ]
+        | inl e ↦ (let here : Links mem′ w n′ (head-at mem′ j) (x ∷ base j) = (ap (head-at mem′) e ∙ o .headb, o .low, o .high, subst (λ i. Links mem′ w n′ i (base j)) (ap hd e ∙ sym (o .next)) stay) in
+            subst (λ xs. Links mem′ w n′ (head-at mem′ j) xs) (sym (at-b j e)) here)
+        | inr d ↦ subst (λ xs. Links mem′ w n′ (head-at mem′ j) xs) (sym (off-b j d)) (subst (λ i. Links mem′ w n′ i (base j)) (sym (o .heads j h d)) stay)
+      ]
 
   dead′ : Dead mem′ w (fore x b base 0)
   dead′ =
       let stay : Dead mem′ w (base 0) = dead-stay mem mem′ w n n′ x (o .more) (o .same) (hd 0) (base 0) (o .fresh 0 (omega arith)) (o .links 0 (omega arith)) (o .dead) in
       elim (cases-eq 0 b) [
-        inl e ↦ (let here : Dead mem′ w (x ∷ base 0) = (o .dies e, stay) in subst (λ xs. Dead mem′ w xs) (sym (at-b 0 e)) here)
-      | inr d ↦ subst (λ xs. Dead mem′ w xs) (sym (off-b 0 d)) stay ]
+        | inl e ↦ (let here : Dead mem′ w (x ∷ base 0) = (o .dies e, stay) in subst (λ xs. Dead mem′ w xs) (sym (at-b 0 e)) here)
+        | inr d ↦ subst (λ xs. Dead mem′ w xs) (sym (off-b 0 d)) stay
+      ]
 
   apart′ : Apart (fore x b base 0)
   apart′ =
       elim (cases-eq 0 b) [
-        inl e ↦ (let here : Apart (x ∷ base 0) = (o .fresh 0 (omega arith), o .apart) in subst (λ xs. Apart xs) (sym (at-b 0 e)) here)
-      | inr d ↦ subst (λ xs. Apart xs) (sym (off-b 0 d)) (o .apart) ]
+        | inl e ↦ (let here : Apart (x ∷ base 0) = (o .fresh 0 (omega arith), o .apart) in subst (λ xs. Apart xs) (sym (at-b 0 e)) here)
+        | inr d ↦ subst (λ xs. Apart xs) (sym (off-b 0 d)) (o .apart)
+      ]
 
   live′ : (j : ℕ) → 1 ≤ j → j < 17 → Live mem′ w (fore x b base j)
   live′ j a h =
       let stay : Live mem′ w (base j) = live-stay mem mem′ w n n′ x (o .more) (o .same) (hd j) (base j) (o .fresh j h) (o .links j h) (o .live j a h) in
       elim (cases-eq j b) [
-        inl e ↦ (let here : Live mem′ w (x ∷ base j) = (o .lives (omega arith), stay) in subst (λ xs. Live mem′ w xs) (sym (at-b j e)) here)
-      | inr d ↦ subst (λ xs. Live mem′ w xs) (sym (off-b j d)) stay ]
+        | inl e ↦ (let here : Live mem′ w (x ∷ base j) = (o .lives (omega arith), stay) in subst (λ xs. Live mem′ w xs) (sym (at-b j e)) here)
+        | inr d ↦ subst (λ xs. Live mem′ w xs) (sym (off-b j d)) stay
+      ]
 
   whole′ : sum-to (λ j. length (fore x b base j)) 17 ≡ n′
   whole′ =
@@ -84,8 +88,9 @@ module _ (mem mem′ : List ℕ) (w n n′ x b : ℕ) (hd : ℕ → ℕ) (base :
   rooms′ : length (fore x b base 0) ≡ count-of mem′ w n′ 0
   rooms′ =
       elim (cases-eq 0 b) [
-        inl e ↦ ap length (at-b 0 e) ∙ omega (arith, o .rooms, cond-true {A = ℕ} (eqb 0 b) 1 0 (eq-eqb 0 b e))
-      | inr d ↦ ap length (off-b 0 d) ∙ omega (arith, o .rooms, cond-false {A = ℕ} (eqb 0 b) 1 0 (ne-eqb 0 b d)) ]
+        | inl e ↦ ap length (at-b 0 e) ∙ omega (arith, o .rooms, cond-true {A = ℕ} (eqb 0 b) 1 0 (eq-eqb 0 b e))
+        | inr d ↦ ap length (off-b 0 d) ∙ omega (arith, o .rooms, cond-false {A = ℕ} (eqb 0 b) 1 0 (ne-eqb 0 b d))
+      ]
 
   -- what a walk along the bucket of a key finds
   pub fore-seek : (c p : ℕ) → seek-in mem′ w n′ c p ≡ cond (eqb (bucket-of c p) b && has-key mem′ w x c p) x (seek-list mem w (base (bucket-of c p)) c p)
@@ -96,8 +101,9 @@ module _ (mem mem′ : List ℕ) (w n n′ x b : ℕ) (hd : ℕ → ℕ) (base :
       let stay : seek-list mem′ w (base j) c p ≡ seek-list mem w (base j) c p = seek-stays mem mem′ w n n′ x (o .more) (o .same) (hd j) (base j) c p (o .fresh j h) (o .links j h) in
       walk-seeks mem′ w n′ n′ (head-at mem′ j) (fore x b base j) c p (links′ j h) short
       ∙ elim (cases-eq j b) [
-          inl e ↦ ap (λ xs. seek-list mem′ w xs c p) (at-b j e) ∙ ap (cond (has-key mem′ w x c p) x) stay ∙ ap (λ t. cond (t && has-key mem′ w x c p) x (seek-list mem w (base j) c p)) (sym (eq-eqb j b e))
-        | inr d ↦ ap (λ xs. seek-list mem′ w xs c p) (off-b j d) ∙ stay ∙ ap (λ t. cond (t && has-key mem′ w x c p) x (seek-list mem w (base j) c p)) (sym (ne-eqb j b d)) ]
+        | inl e ↦ ap (λ xs. seek-list mem′ w xs c p) (at-b j e) ∙ ap (cond (has-key mem′ w x c p) x) stay ∙ ap (λ t. cond (t && has-key mem′ w x c p) x (seek-list mem w (base j) c p)) (sym (eq-eqb j b e))
+        | inr d ↦ ap (λ xs. seek-list mem′ w xs c p) (off-b j d) ∙ stay ∙ ap (λ t. cond (t && has-key mem′ w x c p) x (seek-list mem w (base j) c p)) (sym (ne-eqb j b d))
+      ]
 
   pub fore-laid : Laid mem′ w n′
   fore-laid = record { chain = fore x b base; links = links′; dead = dead′; apart = apart′; live = live′; whole = whole′; rooms = rooms′; scans = λ c p a. fore-seek c p ∙ o .scans c p a }
@@ -122,8 +128,9 @@ home-live k p a e = omega (arith, cond-true {A = ℕ} (eqb k 0) 0 (bucket-of k p
 pub home-bit : (k p : ℕ) → cond {A = ℕ} (eqb 0 (home-of k p)) 1 0 ≡ cond {A = ℕ} (eqb k 0) 1 0
 home-bit k p =
     elim (cases-eq k 0) [
-      inl e ↦ cond-true {A = ℕ} (eqb 0 (home-of k p)) 1 0 (eq-eqb 0 (home-of k p) (sym (cond-true {A = ℕ} (eqb k 0) 0 (bucket-of k p) (eq-eqb k 0 e)))) ∙ sym (cond-true {A = ℕ} (eqb k 0) 1 0 (eq-eqb k 0 e))
-    | inr d ↦ cond-false {A = ℕ} (eqb 0 (home-of k p)) 1 0 (ne-eqb 0 (home-of k p) (λ z. d (home-dead k p z))) ∙ sym (cond-false {A = ℕ} (eqb k 0) 1 0 (ne-eqb k 0 d)) ]
+      | inl e ↦ cond-true {A = ℕ} (eqb 0 (home-of k p)) 1 0 (eq-eqb 0 (home-of k p) (sym (cond-true {A = ℕ} (eqb k 0) 0 (bucket-of k p) (eq-eqb k 0 e)))) ∙ sym (cond-true {A = ℕ} (eqb k 0) 1 0 (eq-eqb k 0 e))
+      | inr d ↦ cond-false {A = ℕ} (eqb 0 (home-of k p)) 1 0 (ne-eqb 0 (home-of k p) (λ z. d (home-dead k p z))) ∙ sym (cond-false {A = ℕ} (eqb k 0) 1 0 (ne-eqb k 0 d))
+    ]
 
 -- one more record, in the chain that its closing and place say
 module _ (mem mem′ : List ℕ) (w n i k : ℕ) (laid : Laid mem w i) (less : i < n) (u : Fronted mem mem′ w n (suc i) (home-of k (place-at mem w (suc i))) k) where
@@ -143,23 +150,35 @@ module _ (mem mem′ : List ℕ) (w n i k : ℕ) (laid : Laid mem w i) (less : i
   scans′ : (c p : ℕ) → 1 ≤ c → cond (eqb (bucket-of c p) b && has-key mem′ w (suc i) c p) (suc i) (seek-list mem w (laid .chain (bucket-of c p)) c p) ≡ scan-at mem′ w (suc i) c p
   scans′ c p a =
       let rest : seek-list mem w (laid .chain (bucket-of c p)) c p ≡ scan-at mem′ w i c p =
-        list-scans mem w i laid c p a ∙ sym (scan-same mem mem′ w i c p (λ y q h. key-stays mem mem′ w i i (suc i) (omega arith) same y c p q h (λ e. omega arith))) in
+      list-scans mem w i laid c p a ∙ sym (scan-same mem mem′ w i c p (λ y q h. key-stays mem mem′ w i i (suc i) (omega arith) same y c p q h (λ e. omega arith))) in
       elim (cases-bool (has-key mem′ w (suc i) c p)) [
-        inl t ↦ (let s = has-parts mem′ w (suc i) c p t in
-          let kc : k ≡ c = sym (u .closing) ∙ s .0 in
-          let pp : place-at mem w (suc i) ≡ p = sym (u .place) ∙ s .1 in
-          let at : bucket-of c p ≡ b = sym (cond-false (eqb k 0) 0 (bucket-of k (place-at mem w (suc i))) (ne-eqb k 0 (λ e. omega arith)) ∙ ap (λ z. bucket-of z (place-at mem w (suc i))) kc ∙ ap (bucket-of c) pp) in
-          cond-true (eqb (bucket-of c p) b && has-key mem′ w (suc i) c p) (suc i) _ (and-from (eqb (bucket-of c p) b) _ (eq-eqb (bucket-of c p) b at) t) ∙ sym (cond-true (has-key mem′ w (suc i) c p) (suc i) (scan-at mem′ w i c p) t))
-      | inr t ↦ cond-false (eqb (bucket-of c p) b && has-key mem′ w (suc i) c p) (suc i) _ (and-right (eqb (bucket-of c p) b) _ t) ∙ rest ∙ sym (cond-false (has-key mem′ w (suc i) c p) (suc i) (scan-at mem′ w i c p) t) ]
+        | inl t ↦ (let s = has-parts mem′ w (suc i) c p t in
+            let kc : k ≡ c = sym (u .closing) ∙ s .0 in
+            let pp : place-at mem w (suc i) ≡ p = sym (u .place) ∙ s .1 in
+            let at : bucket-of c p ≡ b = sym (cond-false (eqb k 0) 0 (bucket-of k (place-at mem w (suc i))) (ne-eqb k 0 (λ e. omega arith)) ∙ ap (λ z. bucket-of z (place-at mem w (suc i))) kc ∙ ap (bucket-of c) pp) in
+            cond-true (eqb (bucket-of c p) b && has-key mem′ w (suc i) c p) (suc i) _ (and-from (eqb (bucket-of c p) b) _ (eq-eqb (bucket-of c p) b at) t) ∙ sym (cond-true (has-key mem′ w (suc i) c p) (suc i) (scan-at mem′ w i c p) t))
+        | inr t ↦ cond-false (eqb (bucket-of c p) b && has-key mem′ w (suc i) c p) (suc i) _ (and-right (eqb (bucket-of c p) b) _ t) ∙ rest ∙ sym (cond-false (has-key mem′ w (suc i) c p) (suc i) (scan-at mem′ w i c p) t)
+      ]
 
   pub more-laid : Laid mem′ w (suc i)
   more-laid = fore-laid mem mem′ w i (suc i) (suc i) b (head-at mem) (laid .chain) (record {
-    more = omega arith; low = omega arith; high = omega arith; bhigh = home-high k (place-at mem w (suc i));
-    same = same; links = laid .links; fresh = λ j h. low-fresh mem w i (suc i) (head-at mem j) (laid .chain j) (omega arith) (laid .links j h);
-    headb = u .headb; heads = u .heads; next = u .next;
-    dead = laid .dead; dies = λ e. u .closing ∙ home-dead k (place-at mem w (suc i)) e;
-    apart = laid .apart; live = laid .live; lives = λ a e. home-live k (place-at mem w (suc i)) a (sym (u .closing) ∙ e);
-    whole = omega (arith, laid .whole); rooms = omega (arith, laid .rooms, counts, home-bit k (place-at mem w (suc i)));
+    more = omega arith;
+    low = omega arith;
+    high = omega arith;
+    bhigh = home-high k (place-at mem w (suc i));
+    same = same;
+    links = laid .links;
+    fresh = λ j h. low-fresh mem w i (suc i) (head-at mem j) (laid .chain j) (omega arith) (laid .links j h);
+    headb = u .headb;
+    heads = u .heads;
+    next = u .next;
+    dead = laid .dead;
+    dies = λ e. u .closing ∙ home-dead k (place-at mem w (suc i)) e;
+    apart = laid .apart;
+    live = laid .live;
+    lives = λ a e. home-live k (place-at mem w (suc i)) a (sym (u .closing) ∙ e);
+    whole = omega (arith, laid .whole);
+    rooms = omega (arith, laid .rooms, counts, home-bit k (place-at mem w (suc i)));
     scans = scans′;
   })
 
@@ -190,21 +209,24 @@ module _ (mem mem′ : List ℕ) (w n b c p : ℕ) (r : List ℕ) (laid : Laid m
   -- links, freshness and life, at the free chain and at a bucket
   links0 : (j : ℕ) → j < 17 → Links mem w n (hd j) (base j)
   links0 j h = elim (cases-eq j 0) [
-      inl e ↦ subst (λ i. Links mem w n (hd i) (base i)) (sym e) (free .3)
-    | inr d ↦ subst (λ i. Links mem w n i (base j)) (sym (off j d .0)) (subst (λ xs. Links mem w n (head-at mem j) xs) (sym (off j d .1)) (laid .links j h)) ]
+    | inl e ↦ subst (λ i. Links mem w n (hd i) (base i)) (sym e) (free .3)
+    | inr d ↦ subst (λ i. Links mem w n i (base j)) (sym (off j d .0)) (subst (λ xs. Links mem w n (head-at mem j) xs) (sym (off j d .1)) (laid .links j h))
+  ]
 
   live0 : (j : ℕ) → 1 ≤ j → j < 17 → Live mem w (base j)
   live0 j a h = subst (λ xs. Live mem w xs) (sym (off j (λ e. omega arith) .1)) (laid .live j a h)
 
   fresh0 : (j : ℕ) → j < 17 → Fresh x (base j)
   fresh0 j h = elim (cases-eq j 0) [
-      inl e ↦ subst (λ i. Fresh x (base i)) (sym e) (apart0 .0)
-    | inr d ↦ live-fresh mem w x (base j) (dead0 .0) (live0 j (omega arith) h) ]
+    | inl e ↦ subst (λ i. Fresh x (base i)) (sym e) (apart0 .0)
+    | inr d ↦ live-fresh mem w x (base j) (dead0 .0) (live0 j (omega arith) h)
+  ]
 
   heads0 : (j : ℕ) → j < 17 → (j ≡ b → ⊥) → head-at mem′ j ≡ hd j
   heads0 j h d = elim (cases-eq j 0) [
-      inl e ↦ subst (λ i. head-at mem′ i ≡ hd i) (sym e) (u .head0)
-    | inr z ↦ u .heads j h z d ∙ sym (off j z .0) ]
+    | inl e ↦ subst (λ i. head-at mem′ i ≡ hd i) (sym e) (u .head0)
+    | inr z ↦ u .heads j h z d ∙ sym (off j z .0)
+  ]
 
   b0 : b ≡ 0 → ⊥
   b0 e = omega arith
@@ -222,7 +244,7 @@ module _ (mem mem′ : List ℕ) (w n b c p : ℕ) (r : List ℕ) (laid : Laid m
       let g : ℕ → Bool = λ j. eqb (closing-at mem′ w (j + 1)) 0 in
       let at : x - 1 + 1 ≡ x = omega (arith, free .1) in
       tally-put g f n (x - 1) (omega (arith, free .1, free .2)) (λ j h d. ap (λ z. eqb z 0) (sym (u .others (j + 1) (omega arith) (omega arith) (λ e. d (omega arith)) .closing)))
-        (ap (λ z. eqb z 0) (ap (closing-at mem′ w) at ∙ u .closing) ∙ ne-eqb c 0 (λ (e : c ≡ 0). omega arith)) (eq-eqb _ 0 (ap (closing-at mem w) at ∙ dead0 .0))
+      (ap (λ z. eqb z 0) (ap (closing-at mem′ w) at ∙ u .closing) ∙ ne-eqb c 0 (λ (e : c ≡ 0). omega arith)) (eq-eqb _ 0 (ap (closing-at mem w) at ∙ dead0 .0))
 
   has : has-key mem′ w x c p ≡ true
   has = key-there mem′ w x c p (u .closing) (u .place)
@@ -233,9 +255,10 @@ module _ (mem mem′ : List ℕ) (w n b c p : ℕ) (r : List ℕ) (laid : Laid m
 
   pub push-scan-others : (d q : ℕ) → 1 ≤ d → (d ≡ c → q ≡ p → ⊥) → scan-at mem′ w n d q ≡ scan-at mem w n d q
   push-scan-others d q a ne = scan-same mem mem′ w n d q (λ y v h. elim (cases-eq y x) [
-      inl e ↦ no-key mem′ w y d q (λ k l. ne (sym k ∙ ap (closing-at mem′ w) e ∙ u .closing) (sym l ∙ ap (place-at mem′ w) e ∙ u .place))
-            ∙ sym (no-key mem w y d q (λ k l. omega (arith, sym k ∙ ap (closing-at mem w) e ∙ dead0 .0)))
-    | inr z ↦ key-stays mem mem′ w n n x (omega arith) (u .others) y d q v h z ])
+    | inl e ↦ no-key mem′ w y d q (λ k l. ne (sym k ∙ ap (closing-at mem′ w) e ∙ u .closing) (sym l ∙ ap (place-at mem′ w) e ∙ u .place))
+        ∙ sym (no-key mem w y d q (λ k l. omega (arith, sym k ∙ ap (closing-at mem w) e ∙ dead0 .0)))
+    | inr z ↦ key-stays mem mem′ w n n x (omega arith) (u .others) y d q v h z
+  ])
 
   list0 : (d q : ℕ) → 1 ≤ d → seek-list mem w (base (bucket-of d q)) d q ≡ scan-at mem w n d q
   list0 d q a = ap (λ xs. seek-list mem w xs d q) (off (bucket-of d q) (λ e. omega arith) .1) ∙ list-scans mem w n laid d q a
@@ -243,19 +266,33 @@ module _ (mem mem′ : List ℕ) (w n b c p : ℕ) (r : List ℕ) (laid : Laid m
   scans0 : (d q : ℕ) → 1 ≤ d → cond (eqb (bucket-of d q) b && has-key mem′ w x d q) x (seek-list mem w (base (bucket-of d q)) d q) ≡ scan-at mem′ w n d q
   scans0 d q a =
       elim (cases-bool (has-key mem′ w x d q)) [
-        inl t ↦ (let s = has-parts mem′ w x d q t in
-          let dc : d ≡ c = sym (s .0) ∙ u .closing in
-          let qp : q ≡ p = sym (s .1) ∙ u .place in
-          let at : bucket-of d q ≡ b = ap (λ z. bucket-of z q) dc ∙ ap (bucket-of c) qp ∙ home in
-          cond-true (eqb (bucket-of d q) b && has-key mem′ w x d q) x _ (and-from (eqb (bucket-of d q) b) _ (eq-eqb (bucket-of d q) b at) t) ∙ sym (ap (λ z. scan-at mem′ w n z q) dc ∙ ap (scan-at mem′ w n c) qp ∙ push-scan-here))
-      | inr t ↦ cond-false (eqb (bucket-of d q) b && has-key mem′ w x d q) x _ (and-right (eqb (bucket-of d q) b) _ t) ∙ list0 d q a
-          ∙ sym (push-scan-others d q a (λ e g. both-ways _ t (ap (λ z. has-key mem′ w x z q) e ∙ ap (has-key mem′ w x c) g ∙ has))) ]
+        | inl t ↦ (let s = has-parts mem′ w x d q t in
+            let dc : d ≡ c = sym (s .0) ∙ u .closing in
+            let qp : q ≡ p = sym (s .1) ∙ u .place in
+            let at : bucket-of d q ≡ b = ap (λ z. bucket-of z q) dc ∙ ap (bucket-of c) qp ∙ home in
+            cond-true (eqb (bucket-of d q) b && has-key mem′ w x d q) x _ (and-from (eqb (bucket-of d q) b) _ (eq-eqb (bucket-of d q) b at) t) ∙ sym (ap (λ z. scan-at mem′ w n z q) dc ∙ ap (scan-at mem′ w n c) qp ∙ push-scan-here))
+        | inr t ↦ cond-false (eqb (bucket-of d q) b && has-key mem′ w x d q) x _ (and-right (eqb (bucket-of d q) b) _ t) ∙ list0 d q a
+            ∙ sym (push-scan-others d q a (λ e g. both-ways _ t (ap (λ z. has-key mem′ w x z q) e ∙ ap (has-key mem′ w x c) g ∙ has)))
+      ]
 
   pub push-laid : Laid mem′ w n
   push-laid = fore-laid mem mem′ w n n x b hd base (record {
-    more = omega arith; low = free .1; high = free .2; bhigh = high;
-    same = u .others; links = links0; fresh = fresh0; headb = u .headb; heads = heads0; next = u .next ∙ sym (off b b0 .0);
-    dead = dead0 .1; dies = λ e. absurd (b0 (sym e)); apart = apart0 .1; live = live0; lives = λ _ e. omega (arith, sym (u .closing) ∙ e);
-    whole = whole0; rooms = omega (arith, ap length is, laid .rooms, fewer, cond-false {A = ℕ} (eqb 0 b) 1 0 (ne-eqb 0 b (λ e. b0 (sym e))));
+    more = omega arith;
+    low = free .1;
+    high = free .2;
+    bhigh = high;
+    same = u .others;
+    links = links0;
+    fresh = fresh0;
+    headb = u .headb;
+    heads = heads0;
+    next = u .next ∙ sym (off b b0 .0);
+    dead = dead0 .1;
+    dies = λ e. absurd (b0 (sym e));
+    apart = apart0 .1;
+    live = live0;
+    lives = λ _ e. omega (arith, sym (u .closing) ∙ e);
+    whole = whole0;
+    rooms = omega (arith, ap length is, laid .rooms, fewer, cond-false {A = ℕ} (eqb 0 b) 1 0 (ne-eqb 0 b (λ e. b0 (sym e))));
     scans = scans0;
   })

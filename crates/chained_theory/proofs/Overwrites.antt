@@ -45,27 +45,32 @@ module _ (mem mem′ : List ℕ) (w n : ℕ) (heads : (j : ℕ) → j < 17 → h
       let fresh : (j : ℕ) → j < 17 → Fresh 0 (k .chain j) = λ j h. zero-fresh mem w n (head-at mem j) (k .chain j) (k .links j h) in
       let links : (j : ℕ) → j < 17 → Links mem′ w n (head-at mem′ j) (k .chain j) = λ j h. subst (λ i. Links mem′ w n i (k .chain j)) (sym (heads j h)) (links-stay mem mem′ w n n 0 (omega arith) all (head-at mem j) (k .chain j) (fresh j h) (k .links j h)) in
       record {
-        chain = k .chain; links = links;
+        chain = k .chain;
+        links = links;
         dead = dead-stay mem mem′ w n n 0 (omega arith) all (head-at mem 0) (k .chain 0) (fresh 0 (omega arith)) (k .links 0 (omega arith)) (k .dead);
         apart = k .apart;
         live = λ j a h. live-stay mem mem′ w n n 0 (omega arith) all (head-at mem j) (k .chain j) (fresh j h) (k .links j h) (k .live j a h);
-        whole = k .whole; rooms = k .rooms ∙ sym over-count;
+        whole = k .whole;
+        rooms = k .rooms ∙ sym over-count;
         scans = λ c p a.
-          let j : ℕ = bucket-of c p in
-          let h : bucket-of c p < 17 = omega arith in
-          let short : length (k .chain j) ≤ n = omega (arith, le-sum-to (λ i. length (k .chain i)) 17 j h, k .whole) in
-          walk-seeks mem′ w n n (head-at mem′ j) (k .chain j) c p (links j h) short
-          ∙ seek-stays mem mem′ w n n 0 (omega arith) all (head-at mem j) (k .chain j) c p (fresh j h) (k .links j h) ∙ list-scans mem w n k c p a ∙ sym (over-scan c p);
+            let j : ℕ = bucket-of c p in
+            let h : bucket-of c p < 17 = omega arith in
+            let short : length (k .chain j) ≤ n = omega (arith, le-sum-to (λ i. length (k .chain i)) 17 j h, k .whole) in
+            walk-seeks mem′ w n n (head-at mem′ j) (k .chain j) c p (links j h) short
+            ∙ seek-stays mem mem′ w n n 0 (omega arith) all (head-at mem j) (k .chain j) c p (fresh j h) (k .links j h) ∙ list-scans mem w n k c p a ∙ sym (over-scan c p);
       }
 
   pub over-linked : (f l b room : ℕ) → Linked mem w n f l b room → Linked mem′ w n f l b room
-  over-linked f l b room k = record { laid = over-laid (k .laid); keys = record {
-    once = λ y a h live. let s = same y a h in
-      ap (λ z. scan-at mem′ w n z (place-at mem′ w y)) (s .closing) ∙ ap (scan-at mem′ w n (closing-at mem w y)) (s .place) ∙ over-scan _ _ ∙ k .keys .once y a h (λ e. live (s .closing ∙ e));
-    inside = λ y a h live. let s = same y a h in
-      ap (λ z. holds-key f l b z (place-at mem′ w y)) (s .closing) ∙ ap (holds-key f l b (closing-at mem w y)) (s .place) ∙ k .keys .inside y a h (λ e. live (s .closing ∙ e));
-    free = over-count ∙ k .keys .free;
-  } }
+  over-linked f l b room k = record {
+    laid = over-laid (k .laid);
+    keys = record {
+      once = λ y a h live. let s = same y a h in
+          ap (λ z. scan-at mem′ w n z (place-at mem′ w y)) (s .closing) ∙ ap (scan-at mem′ w n (closing-at mem w y)) (s .place) ∙ over-scan _ _ ∙ k .keys .once y a h (λ e. live (s .closing ∙ e));
+      inside = λ y a h live. let s = same y a h in
+          ap (λ z. holds-key f l b z (place-at mem′ w y)) (s .closing) ∙ ap (holds-key f l b (closing-at mem w y)) (s .place) ∙ k .keys .inside y a h (λ e. live (s .closing ∙ e));
+      free = over-count ∙ k .keys .free;
+    };
+  }
 
 module _ (mem : List ℕ) (w n f l b room c p : ℕ) (r : List ℕ) (k : Linked mem w n f l b room) (fits : 68 + n * (12 + w) ≤ length mem) (starts : 1 ≤ f)
     (inside : holds-key f l b c p ≡ true) (wide : length r ≡ w) (found : seek-in mem w n c p ≡ 0 → ⊥) where
@@ -96,8 +101,9 @@ module _ (mem : List ℕ) (w n f l b room c p : ℕ) (r : List ℕ) (k : Linked 
   -- bytes that are not of that record's last w
   clear-of : (y : ℕ) → 1 ≤ y → (q : ℕ) → start-of w y ≤ q → q < start-of w y + 12 → getD after q 0 ≡ getD mem q 0
   clear-of y a q u v = elim (cases-eq y x) [
-      inl e ↦ keeps q (inl (omega (arith, ap (start-of w) e)))
-    | inr d ↦ elim (apart w x y low a d) [ inl o ↦ keeps q (inl (omega arith)) | inr o ↦ keeps q (inr (omega arith)) ] ]
+    | inl e ↦ keeps q (inl (omega (arith, ap (start-of w) e)))
+    | inr d ↦ elim (apart w x y low a d) [ inl o ↦ keeps q (inl (omega arith)) | inr o ↦ keeps q (inr (omega arith)) ]
+  ]
 
   pub heads-stay : (j : ℕ) → j < 17 → head-at after j ≡ head-at mem j
   unfolding head-at
@@ -122,19 +128,20 @@ module _ (mem : List ℕ) (w n f l b room c p : ℕ) (r : List ℕ) (k : Linked 
       record {
         limits = record { width = refl; first = refl; last = refl; bound = refl };
         here = cond-true (holds-key f l b c p) (record-at after w (seek-in after w n c p)) None inside ∙ ap (record-at after w) (laid .scans c p clow ∙ over-scan mem after w n heads-stay keys-stay c p ∙ sym xe)
-          ∙ cond-false (eqb x 0) None (Some (part after (start-of w x + 12) w)) (ne-eqb x 0 found) ∙ ap Some (ap (part after (start-of w x + 12)) (sym wide) ∙ part-patch mem (start-of w x + 12) r fit);
+            ∙ cond-false (eqb x 0) None (Some (part after (start-of w x + 12) w)) (ne-eqb x 0 found) ∙ ap Some (ap (part after (start-of w x + 12)) (sym wide) ∙ part-patch mem (start-of w x + 12) r fit);
         others = λ d q ne. elim (cases-bool (holds-key f l b d q)) [
-            inl t ↦ (let dlow : 1 ≤ d = omega (arith, key-out f l b d q t .0) in
+          | inl t ↦ (let dlow : 1 ≤ d = omega (arith, key-out f l b d q t .0) in
               let y : ℕ = scan-at mem w n d q in
               let same : record-at after w y ≡ record-at mem w y = same-record mem after w y (λ z.
-                let h = scan-has mem w n d q z in
-                let other : y ≡ x → ⊥ = λ e.
-                  let k1 = has-parts mem w x c p (within .0) in
-                  let k2 = has-parts mem w y d q (h .0) in
-                  ne (sym (k2 .0) ∙ ap (closing-at mem w) e ∙ k1 .0) (sym (k2 .1) ∙ ap (place-at mem w) e ∙ k1 .1) in
-                part-same mem after (start-of w y + 12) w (length-patch mem (start-of w x + 12) r fit)
-                  (λ i u v. elim (apart w x y low (omega (arith, z)) other) [ inl o ↦ keeps i (inl (omega arith)) | inr o ↦ keeps i (inr (omega arith)) ])) in
+              let h = scan-has mem w n d q z in
+              let other : y ≡ x → ⊥ = λ e.
+              let k1 = has-parts mem w x c p (within .0) in
+              let k2 = has-parts mem w y d q (h .0) in
+              ne (sym (k2 .0) ∙ ap (closing-at mem w) e ∙ k1 .0) (sym (k2 .1) ∙ ap (place-at mem w) e ∙ k1 .1) in
+              part-same mem after (start-of w y + 12) w (length-patch mem (start-of w x + 12) r fit)
+              (λ i u v. elim (apart w x y low (omega (arith, z)) other) [ inl o ↦ keeps i (inl (omega arith)) | inr o ↦ keeps i (inr (omega arith)) ])) in
               ap (λ o. cond (holds-key f l b d q) o None) (ap (record-at after w) (laid .scans d q dlow ∙ over-scan mem after w n heads-stay keys-stay d q) ∙ same ∙ ap (record-at mem w) (sym (k .laid .scans d q dlow))))
-          | inr t ↦ cond-false (holds-key f l b d q) _ None t ∙ sym (cond-false (holds-key f l b d q) _ None t) ];
+          | inr t ↦ cond-false (holds-key f l b d q) _ None t ∙ sym (cond-false (holds-key f l b d q) _ None t)
+        ];
         room = omega (arith, none);
       }

@@ -37,8 +37,9 @@ free-record mem w n f l b room k h =
 
 pub same-record : (mem mem′ : List ℕ) (w y : ℕ) → ((y ≡ 0 → ⊥) → part mem′ (start-of w y + 12) w ≡ part mem (start-of w y + 12) w) → record-at mem′ w y ≡ record-at mem w y
 same-record mem mem′ w y h = elim (cases-eq y 0) [
-    inl e ↦ cond-true (eqb y 0) None _ (eq-eqb y 0 e) ∙ sym (cond-true (eqb y 0) None _ (eq-eqb y 0 e))
-  | inr d ↦ ap (λ r. cond (eqb y 0) None (Some r)) (h d) ]
+  | inl e ↦ cond-true (eqb y 0) None _ (eq-eqb y 0 e) ∙ sym (cond-true (eqb y 0) None _ (eq-eqb y 0 e))
+  | inr d ↦ ap (λ r. cond (eqb y 0) None (Some r)) (h d)
+]
 
 module _ (mem : List ℕ) (w n f l b room c p : ℕ) (r : List ℕ) (k : Linked mem w n f l b room) (fits : 68 + n * (12 + w) ≤ length mem) (starts : 1 ≤ f) (inside : holds-key f l b c p ≡ true)
     (wide : length r ≡ w) (absent : seek-in mem w n c p ≡ 0) (some : 1 ≤ room) where
@@ -82,20 +83,25 @@ module _ (mem : List ℕ) (w n f l b room c p : ℕ) (r : List ℕ) (k : Linked 
   count = fewer mem mem′ w n (bucket-of c p) c p r (k .laid) (first .0) (first .1) (omega arith) bucket refl clow none done
 
   pub push-linked : Linked mem′ w n f l b (room - 1)
-  push-linked = record { laid = laid; keys = record {
-    once = λ y a h live. elim (cases-eq y x) [
-        inl e ↦ ap (λ z. scan-at mem′ w n (closing-at mem′ w z) (place-at mem′ w z)) e ∙ ap (λ z. scan-at mem′ w n z (place-at mem′ w x)) (done .closing) ∙ ap (scan-at mem′ w n c) (done .place) ∙ here ∙ sym e
-      | inr d ↦ (let s = done .others y a h d in
-          let alive : closing-at mem w y ≡ 0 → ⊥ = λ e. live (s .closing ∙ e) in
-          let was : scan-at mem w n (closing-at mem w y) (place-at mem w y) ≡ y = k .keys .once y a h alive in
-          let other : closing-at mem w y ≡ c → place-at mem w y ≡ p → ⊥ = λ u v. omega (arith, sym was ∙ ap (λ z. scan-at mem w n z (place-at mem w y)) u ∙ ap (scan-at mem w n c) v ∙ none) in
-          ap (λ z. scan-at mem′ w n z (place-at mem′ w y)) (s .closing) ∙ ap (scan-at mem′ w n (closing-at mem w y)) (s .place) ∙ others (closing-at mem w y) (place-at mem w y) (omega (arith, alive)) other ∙ was) ];
-    inside = λ y a h live. elim (cases-eq y x) [
-        inl e ↦ ap (λ z. holds-key f l b (closing-at mem′ w z) (place-at mem′ w z)) e ∙ ap (λ z. holds-key f l b z (place-at mem′ w x)) (done .closing) ∙ ap (holds-key f l b c) (done .place) ∙ inside
-      | inr d ↦ (let s = done .others y a h d in
-          ap (λ z. holds-key f l b z (place-at mem′ w y)) (s .closing) ∙ ap (holds-key f l b (closing-at mem w y)) (s .place) ∙ k .keys .inside y a h (λ e. live (s .closing ∙ e))) ];
-    free = omega (arith, count, k .keys .free);
-  } }
+  push-linked = record {
+    laid = laid;
+    keys = record {
+      once = λ y a h live. elim (cases-eq y x) [
+        | inl e ↦ ap (λ z. scan-at mem′ w n (closing-at mem′ w z) (place-at mem′ w z)) e ∙ ap (λ z. scan-at mem′ w n z (place-at mem′ w x)) (done .closing) ∙ ap (scan-at mem′ w n c) (done .place) ∙ here ∙ sym e
+        | inr d ↦ (let s = done .others y a h d in
+            let alive : closing-at mem w y ≡ 0 → ⊥ = λ e. live (s .closing ∙ e) in
+            let was : scan-at mem w n (closing-at mem w y) (place-at mem w y) ≡ y = k .keys .once y a h alive in
+            let other : closing-at mem w y ≡ c → place-at mem w y ≡ p → ⊥ = λ u v. omega (arith, sym was ∙ ap (λ z. scan-at mem w n z (place-at mem w y)) u ∙ ap (scan-at mem w n c) v ∙ none) in
+            ap (λ z. scan-at mem′ w n z (place-at mem′ w y)) (s .closing) ∙ ap (scan-at mem′ w n (closing-at mem w y)) (s .place) ∙ others (closing-at mem w y) (place-at mem w y) (omega (arith, alive)) other ∙ was)
+      ];
+      inside = λ y a h live. elim (cases-eq y x) [
+        | inl e ↦ ap (λ z. holds-key f l b (closing-at mem′ w z) (place-at mem′ w z)) e ∙ ap (λ z. holds-key f l b z (place-at mem′ w x)) (done .closing) ∙ ap (holds-key f l b c) (done .place) ∙ inside
+        | inr d ↦ (let s = done .others y a h d in
+            ap (λ z. holds-key f l b z (place-at mem′ w y)) (s .closing) ∙ ap (holds-key f l b (closing-at mem w y)) (s .place) ∙ k .keys .inside y a h (λ e. live (s .closing ∙ e)))
+      ];
+      free = omega (arith, count, k .keys .free);
+    };
+  }
 
   pub push-written : Put (chained-of mem w n f l b room) (chained-of mem′ w n f l b (room - 1)) c p r
   push-written =
@@ -105,15 +111,16 @@ module _ (mem : List ℕ) (w n f l b room c p : ℕ) (r : List ℕ) (k : Linked 
       record {
         limits = record { width = refl; first = refl; last = refl; bound = refl };
         here = cond-true (holds-key f l b c p) (record-at mem′ w (seek-in mem′ w n c p)) None inside ∙ ap (record-at mem′ w) (laid .scans c p clow ∙ here)
-          ∙ cond-false (eqb x 0) None (Some (part mem′ (start-of w x + 12) w)) (ne-eqb x 0 xz) ∙ ap Some (done .bytes);
+            ∙ cond-false (eqb x 0) None (Some (part mem′ (start-of w x + 12) w)) (ne-eqb x 0 xz) ∙ ap Some (done .bytes);
         others = λ d q ne. elim (cases-bool (holds-key f l b d q)) [
-            inl t ↦ (let dlow : 1 ≤ d = omega (arith, key-out f l b d q t .0) in
+          | inl t ↦ (let dlow : 1 ≤ d = omega (arith, key-out f l b d q t .0) in
               let y : ℕ = scan-at mem w n d q in
               let same : record-at mem′ w y ≡ record-at mem w y = same-record mem mem′ w y (λ z.
-                let h = scan-has mem w n d q z in
-                done .kept y (omega (arith, z)) (h .1) (λ e. omega (arith, sym (has-parts mem w y d q (h .0) .0) ∙ ap (closing-at mem w) e ∙ dead-x))) in
+              let h = scan-has mem w n d q z in
+              done .kept y (omega (arith, z)) (h .1) (λ e. omega (arith, sym (has-parts mem w y d q (h .0) .0) ∙ ap (closing-at mem w) e ∙ dead-x))) in
               ap (λ o. cond (holds-key f l b d q) o None) (ap (record-at mem′ w) (laid .scans d q dlow ∙ others d q dlow ne) ∙ same ∙ ap (record-at mem w) (sym (k .laid .scans d q dlow))))
-          | inr t ↦ cond-false (holds-key f l b d q) _ None t ∙ sym (cond-false (holds-key f l b d q) _ None t) ];
+          | inr t ↦ cond-false (holds-key f l b d q) _ None t ∙ sym (cond-false (holds-key f l b d q) _ None t)
+        ];
         room = omega (arith, one);
       }
 
@@ -121,13 +128,16 @@ module _ (mem : List ℕ) (w n f l b room c p : ℕ) (r : List ℕ) (k : Linked 
   pub push-heads : ((i : ℕ) → 1 ≤ i → i ≤ n → next-at mem w i ≤ n) → ((j : ℕ) → j < 17 → head-at mem j ≤ n) → (j : ℕ) → j < 17 → head-at mem′ j ≤ n
   push-heads ns hs j h =
       elim (cases-eq j (bucket-of c p)) [
-        inl e ↦ omega (arith, ap (head-at mem′) e, done .headb, within)
-      | inr d ↦ elim (cases-eq j 0) [
-          inl e ↦ omega (arith, ap (head-at mem′) e, done .head0, ns x (within .0) (within .1))
-        | inr z ↦ omega (arith, done .heads j h z d, hs j h) ] ]
+        | inl e ↦ omega (arith, ap (head-at mem′) e, done .headb, within)
+        | inr d ↦ elim (cases-eq j 0) [
+          | inl e ↦ omega (arith, ap (head-at mem′) e, done .head0, ns x (within .0) (within .1))
+          | inr z ↦ omega (arith, done .heads j h z d, hs j h)
+        ]
+      ]
 
   pub push-nexts : ((i : ℕ) → 1 ≤ i → i ≤ n → next-at mem w i ≤ n) → ((j : ℕ) → j < 17 → head-at mem j ≤ n) → (i : ℕ) → 1 ≤ i → i ≤ n → next-at mem′ w i ≤ n
   push-nexts ns hs i a h =
       elim (cases-eq i x) [
-        inl e ↦ omega (arith, ap (next-at mem′ w) e, done .next, hs (bucket-of c p) bucket)
-      | inr d ↦ omega (arith, done .others i a h d .next, ns i a h) ]
+        | inl e ↦ omega (arith, ap (next-at mem′ w) e, done .next, hs (bucket-of c p) bucket)
+        | inr d ↦ omega (arith, done .others i a h d .next, ns i a h)
+      ]

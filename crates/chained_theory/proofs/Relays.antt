@@ -23,8 +23,9 @@ module _ (mem m m′ : List ℕ) (w n i b c : ℕ) (every : Bool) (f : Forgot me
   pub more-forgot : Forgot mem m′ w n (suc i) every c
   more-forgot = record {
     done = λ y a h. elim (cases-eq y (suc i)) [
-        inl e ↦ ap (closing-at m′ w) e ∙ u .closing ∙ ap (without every c) (f .left (suc i) (omega arith) (omega arith) ∙ ap (closing-at mem w) (sym e))
-      | inr d ↦ u .others y a (omega arith) d .closing ∙ f .done y a (omega arith) ];
+      | inl e ↦ ap (closing-at m′ w) e ∙ u .closing ∙ ap (without every c) (f .left (suc i) (omega arith) (omega arith) ∙ ap (closing-at mem w) (sym e))
+      | inr d ↦ u .others y a (omega arith) d .closing ∙ f .done y a (omega arith)
+    ];
     left = λ y a h. u .others y (omega arith) h (λ e. omega arith) .closing ∙ f .left y (omega arith) h;
     place = λ y a h. elim (cases-eq y (suc i)) [ inl e ↦ ap (place-at m′ w) e ∙ u .place ∙ ap (place-at m w) (sym e) | inr d ↦ u .others y a h d .place ] ∙ f .place y a h;
     bytes = λ y a h. elim (cases-eq y (suc i)) [ inl e ↦ ap (λ z. part m′ (start-of w z + 12) w) e ∙ u .bytes ∙ ap (λ z. part m (start-of w z + 12) w) (sym e) | inr d ↦ u .kept y a h d ] ∙ f .bytes y a h;
@@ -32,8 +33,9 @@ module _ (mem m m′ : List ℕ) (w n i b c : ℕ) (every : Bool) (f : Forgot me
 
   pub more-nexts : Laid m w i → b < 17 → ((y : ℕ) → 1 ≤ y → y ≤ i → next-at m w y ≤ i) → (y : ℕ) → 1 ≤ y → y ≤ suc i → next-at m′ w y ≤ suc i
   more-nexts laid h old y a q = elim (cases-eq y (suc i)) [
-      inl e ↦ omega (arith, ap (next-at m′ w) e, u .next, start-le m w i (head-at m b) (laid .chain b) (laid .links b h))
-    | inr d ↦ omega (arith, u .others y a (omega arith) d .next, old y a (omega arith)) ]
+    | inl e ↦ omega (arith, ap (next-at m′ w) e, u .next, start-le m w i (head-at m b) (laid .chain b) (laid .links b h))
+    | inr d ↦ omega (arith, u .others y a (omega arith) d .next, old y a (omega arith))
+  ]
 
 pub past-forgot : (mem m m′ : List ℕ) (w n i c : ℕ) (every : Bool) → Past mem m w → Forgot m m′ w n i every c → Forgot mem m′ w n i every c
 past-forgot mem m m′ w n i c every p f = record {

@@ -58,27 +58,31 @@ pub seek-has : (mem : List ℕ) (w n fuel i c p : ℕ) → i ≤ n → ((y : ℕ
 seek-has mem w n zero i c p h r = omega arith
 seek-has mem w n (suc fuel) i c p h r =
     elim (cases-eq i 0) [
-      inl e ↦ omega (arith, cond-true {A = ℕ} (eqb i 0) 0 (cond (has-key mem w i c p) i (seek-from mem w fuel (next-at mem w i) c p)) (eq-eqb i 0 e))
-    | inr d ↦ (let go : seek-from mem w (suc fuel) i c p ≡ cond (has-key mem w i c p) i (seek-from mem w fuel (next-at mem w i) c p) = cond-false (eqb i 0) 0 _ (ne-eqb i 0 d) in
-        elim (cases-bool (has-key mem w i c p)) [
-          inl t ↦ omega (arith, go, cond-true {A = ℕ} (has-key mem w i c p) i (seek-from mem w fuel (next-at mem w i) c p) t)
-        | inr t ↦ omega (arith, go, cond-false {A = ℕ} (has-key mem w i c p) i (seek-from mem w fuel (next-at mem w i) c p) t, seek-has mem w n fuel (next-at mem w i) c p (r i (omega arith) h) r) ]) ]
+      | inl e ↦ omega (arith, cond-true {A = ℕ} (eqb i 0) 0 (cond (has-key mem w i c p) i (seek-from mem w fuel (next-at mem w i) c p)) (eq-eqb i 0 e))
+      | inr d ↦ (let go : seek-from mem w (suc fuel) i c p ≡ cond (has-key mem w i c p) i (seek-from mem w fuel (next-at mem w i) c p) = cond-false (eqb i 0) 0 _ (ne-eqb i 0 d) in
+          elim (cases-bool (has-key mem w i c p)) [
+            | inl t ↦ omega (arith, go, cond-true {A = ℕ} (has-key mem w i c p) i (seek-from mem w fuel (next-at mem w i) c p) t)
+            | inr t ↦ omega (arith, go, cond-false {A = ℕ} (has-key mem w i c p) i (seek-from mem w fuel (next-at mem w i) c p) t, seek-has mem w n fuel (next-at mem w i) c p (r i (omega arith) h) r)
+          ])
+    ]
 
 -- only keys inside are found, with records of the width
 pub only : (mem : List ℕ) (w n f l b c p : ℕ) (r : List ℕ) → (1 ≤ n → 68 + n * (12 + w) ≤ length mem) → (1 ≤ n → (j : ℕ) → j < 17 → head-at mem j ≤ n) → ((y : ℕ) → 1 ≤ y → y ≤ n → next-at mem w y ≤ n)
     → chained-find mem w n f l b c p ≡ Some r → (holds-key f l b c p ≡ true) × (length r ≡ w)
 only mem w n f l b c p r fits heads nexts e =
     elim (cases-bool (holds-key f l b c p)) [
-      inr t ↦ (let z : _≡_ {A = ℕ} 0 1 = cc (cond-false (holds-key f l b c p) (record-at mem w (seek-in mem w n c p)) None t) in let q : ⊥ = omega arith in absurd q)
-    | inl t ↦ (let x : ℕ = seek-in mem w n c p in
-        let is : record-at mem w x ≡ Some r = sym (cond-true (holds-key f l b c p) (record-at mem w x) None t) ∙ e in
-        elim (cases-eq x 0) [
-          inl z ↦ (let y : _≡_ {A = ℕ} 0 1 = cc (cond-true (eqb x 0) None (Some (part mem (start-of w x + 12) w)) (eq-eqb x 0 z)) in let q : ⊥ = omega arith in absurd q)
-        | inr d ↦ (let some : 1 ≤ n = (elim (cases-eq n 0) [ inl z ↦ absurd (d (seek-out mem w n (head-at mem (bucket-of c p)) c p z)) | inr z ↦ omega arith ]) in
-            let high : x ≤ n = seek-has mem w n n (head-at mem (bucket-of c p)) c p (heads some (bucket-of c p) (omega arith)) nexts in
-            let within : start-of w x + (12 + w) ≤ length mem = omega (arith, record-fits w n x (omega (arith, d)) high, fits some) in
-            let same : part mem (start-of w x + 12) w ≡ r = cc (cond-false (eqb x 0) None (Some (part mem (start-of w x + 12) w)) (ne-eqb x 0 d)) in
-            (t, ap length (sym same) ∙ simp (length-take, length-drop) (omega arith))) ]) ]
+      | inr t ↦ (let z : _≡_ {A = ℕ} 0 1 = cc (cond-false (holds-key f l b c p) (record-at mem w (seek-in mem w n c p)) None t) in let q : ⊥ = omega arith in absurd q)
+      | inl t ↦ (let x : ℕ = seek-in mem w n c p in
+          let is : record-at mem w x ≡ Some r = sym (cond-true (holds-key f l b c p) (record-at mem w x) None t) ∙ e in
+          elim (cases-eq x 0) [
+            | inl z ↦ (let y : _≡_ {A = ℕ} 0 1 = cc (cond-true (eqb x 0) None (Some (part mem (start-of w x + 12) w)) (eq-eqb x 0 z)) in let q : ⊥ = omega arith in absurd q)
+            | inr d ↦ (let some : 1 ≤ n = (elim (cases-eq n 0) [ inl z ↦ absurd (d (seek-out mem w n (head-at mem (bucket-of c p)) c p z)) | inr z ↦ omega arith ]) in
+                let high : x ≤ n = seek-has mem w n n (head-at mem (bucket-of c p)) c p (heads some (bucket-of c p) (omega arith)) nexts in
+                let within : start-of w x + (12 + w) ≤ length mem = omega (arith, record-fits w n x (omega (arith, d)) high, fits some) in
+                let same : part mem (start-of w x + 12) w ≡ r = cc (cond-false (eqb x 0) None (Some (part mem (start-of w x + 12) w)) (ne-eqb x 0 d)) in
+                (t, ap length (sym same) ∙ simp (length-take, length-drop) (omega arith)))
+          ])
+    ]
 
 -- a key that a walk finds is written
 pub found-some : (mem : List ℕ) (w n f l b c p : ℕ) → holds-key f l b c p ≡ true → (seek-in mem w n c p ≡ 0 → ⊥) → chained-find mem w n f l b c p ≡ None → ⊥

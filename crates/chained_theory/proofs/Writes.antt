@@ -75,9 +75,10 @@ pub apart : (w x y : ℕ) → 1 ≤ x → 1 ≤ y → (y ≡ x → ⊥) → (sta
 unfolding start-of
 apart w x y a b ne =
     elim (cases-order (y - 1) (x - 1)) [
-      inl e ↦ (let z : ⊥ = ne (omega arith) in absurd z)
-    | inr (inl h) ↦ inl (omega (arith, next-record (y - 1) (x - 1) (12 + w) h))
-    | inr (inr h) ↦ inr (omega (arith, next-record (x - 1) (y - 1) (12 + w) h)) ]
+      | inl e ↦ (let z : ⊥ = ne (omega arith) in absurd z)
+      | inr (inl h) ↦ inl (omega (arith, next-record (y - 1) (x - 1) (12 + w) h))
+      | inr (inr h) ↦ inr (omega (arith, next-record (x - 1) (y - 1) (12 + w) h))
+    ]
 
 pub past-heads : (w x : ℕ) → 68 ≤ start-of w x
 unfolding start-of
@@ -99,24 +100,24 @@ pushes mem w n x b c p r fits low high blow bhigh wide =
     let past-two : (k : ℕ) → 68 ≤ k → getD h k 0 ≡ getD f k 0 = λ k a. getD-put4 g (4 * b) x k (inr (omega arith)) ∙ getD-put4 f 0 (be4 mem i) k (inr (omega arith)) in
     let four : (j : ℕ) → 68 ≤ j → be4 h j ≡ be4 f j = λ j a. be4-same f h j (λ k u v. past-two k (omega arith)) in
     let away : (y : ℕ) → 1 ≤ y → (y ≡ x → ⊥) → (k : ℕ) → start-of w y ≤ k → k < start-of w y + (12 + w) → getD h k 0 ≡ getD mem k 0 =
-      λ y a d k u v. past-two k (omega (arith, past-heads w y)) ∙ getD-filled mem i (be4 mem (4 * b)) c p r fit k (elim (apart w x y low a d) [ inl o ↦ inl (omega arith) | inr o ↦ inr (omega arith) ]) in
+    λ y a d k u v. past-two k (omega (arith, past-heads w y)) ∙ getD-filled mem i (be4 mem (4 * b)) c p r fit k (elim (apart w x y low a d) [ inl o ↦ inl (omega arith) | inr o ↦ inr (omega arith) ]) in
     record {
       head0 = be4-put4-other g (4 * b) x 0 (inl (omega arith)) ∙ be4-put4-same f 0 (be4 mem i) (omega arith);
       headb = be4-put4-same g (4 * b) x (omega arith);
       heads = λ j a z d. be4-put4-other g (4 * b) x (4 * j) (elim (cases-order j b) [ inl e ↦ absurd (d e) | inr (inl e) ↦ inl (omega arith) | inr (inr e) ↦ inr (omega arith) ])
-        ∙ be4-put4-other f 0 (be4 mem i) (4 * j) (inr (omega arith))
-        ∙ be4-same mem f (4 * j) (λ k u v. getD-filled mem i (be4 mem (4 * b)) c p r fit k (inl (omega arith)));
+          ∙ be4-put4-other f 0 (be4 mem i) (4 * j) (inr (omega arith))
+          ∙ be4-same mem f (4 * j) (λ k u v. getD-filled mem i (be4 mem (4 * b)) c p r fit k (inl (omega arith)));
       next = four i past ∙ filled-next mem i (be4 mem (4 * b)) c p r fit;
       closing = four (i + 4) (omega arith) ∙ filled-closing mem i (be4 mem (4 * b)) c p r fit;
       place = four (i + 8) (omega arith) ∙ filled-place mem i (be4 mem (4 * b)) c p r fit;
       bytes = part-same f h (i + 12) w (lh ∙ sym lf) (λ k u v. past-two k (omega arith)) ∙ ap (part f (i + 12)) (sym wide) ∙ filled-bytes mem i (be4 mem (4 * b)) c p r fit;
       others = λ y a e d.
-        let z : ℕ = start-of w y in
-        record {
-          next = be4-same mem h z (λ k u v. away y a d k u (omega arith));
-          closing = be4-same mem h (z + 4) (λ k u v. away y a d k (omega arith) (omega arith));
-          place = be4-same mem h (z + 8) (λ k u v. away y a d k (omega arith) (omega arith));
-        };
+          let z : ℕ = start-of w y in
+          record {
+            next = be4-same mem h z (λ k u v. away y a d k u (omega arith));
+            closing = be4-same mem h (z + 4) (λ k u v. away y a d k (omega arith) (omega arith));
+            place = be4-same mem h (z + 8) (λ k u v. away y a d k (omega arith) (omega arith));
+          };
       kept = λ y a e d. part-same mem h (start-of w y + 12) w lh (λ k u v. away y a d k (omega arith) (omega arith));
     }
 
@@ -135,24 +136,24 @@ fronts mem w n x b k fits low high bhigh =
     let lh : length h ≡ length mem = length-put4 m2 (4 * b) x ∙ l2 in
     let four : (j : ℕ) → 68 ≤ j → be4 h j ≡ be4 m2 j = λ j a. be4-put4-other m2 (4 * b) x j (inr (omega arith)) in
     let stays : (q : ℕ) → 68 ≤ q → (q < i) ⊎ (i + 8 ≤ q) → getD h q 0 ≡ getD mem q 0 = λ q a o. getD-put4 m2 (4 * b) x q (inr (omega arith))
-      ∙ elim o [ inl y ↦ getD-put4 m1 i head q (inl y) ∙ getD-put4 mem (i + 4) k q (inl (omega arith)) | inr y ↦ getD-put4 m1 i head q (inr (omega arith)) ∙ getD-put4 mem (i + 4) k q (inr (omega arith)) ] in
+    ∙ elim o [ inl y ↦ getD-put4 m1 i head q (inl y) ∙ getD-put4 mem (i + 4) k q (inl (omega arith)) | inr y ↦ getD-put4 m1 i head q (inr (omega arith)) ∙ getD-put4 mem (i + 4) k q (inr (omega arith)) ] in
     let away : (y : ℕ) → 1 ≤ y → (y ≡ x → ⊥) → (q : ℕ) → start-of w y ≤ q → q < start-of w y + (12 + w) → getD h q 0 ≡ getD mem q 0 =
-      λ y a d q u v. stays q (omega (arith, past-heads w y)) (elim (apart w x y low a d) [ inl o ↦ inl (omega arith) | inr o ↦ inr (omega arith) ]) in
+    λ y a d q u v. stays q (omega (arith, past-heads w y)) (elim (apart w x y low a d) [ inl o ↦ inl (omega arith) | inr o ↦ inr (omega arith) ]) in
     record {
       headb = be4-put4-same m2 (4 * b) x (omega arith);
       heads = λ j a d. be4-put4-other m2 (4 * b) x (4 * j) (elim (cases-order j b) [ inl e ↦ absurd (d e) | inr (inl e) ↦ inl (omega arith) | inr (inr e) ↦ inr (omega arith) ])
-        ∙ be4-put4-other m1 i head (4 * j) (inl (omega arith)) ∙ be4-put4-other mem (i + 4) k (4 * j) (inl (omega arith));
+          ∙ be4-put4-other m1 i head (4 * j) (inl (omega arith)) ∙ be4-put4-other mem (i + 4) k (4 * j) (inl (omega arith));
       next = four i past ∙ be4-put4-same m1 i head (omega arith) ∙ be4-put4-other mem (i + 4) k (4 * b) (inl (omega arith));
       closing = four (i + 4) (omega arith) ∙ be4-put4-other m1 i head (i + 4) (inr (omega arith)) ∙ be4-put4-same mem (i + 4) k (omega arith);
       place = four (i + 8) (omega arith) ∙ be4-put4-other m1 i head (i + 8) (inr (omega arith)) ∙ be4-put4-other mem (i + 4) k (i + 8) (inr (omega arith));
       bytes = part-same mem h (i + 12) w lh (λ q u v. stays q (omega arith) (inr (omega arith)));
       others = λ y a e d.
-        let z : ℕ = start-of w y in
-        record {
-          next = be4-same mem h z (λ q u v. away y a d q u (omega arith));
-          closing = be4-same mem h (z + 4) (λ q u v. away y a d q (omega arith) (omega arith));
-          place = be4-same mem h (z + 8) (λ q u v. away y a d q (omega arith) (omega arith));
-        };
+          let z : ℕ = start-of w y in
+          record {
+            next = be4-same mem h z (λ q u v. away y a d q u (omega arith));
+            closing = be4-same mem h (z + 4) (λ q u v. away y a d q (omega arith) (omega arith));
+            place = be4-same mem h (z + 8) (λ q u v. away y a d q (omega arith) (omega arith));
+          };
       kept = λ y a e d. part-same mem h (start-of w y + 12) w lh (λ q u v. away y a d q (omega arith) (omega arith));
     }
 

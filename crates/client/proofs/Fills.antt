@@ -45,7 +45,8 @@ filled-more m k n c i r f w =
 pub filled-cleared : (m k n : Meaning) (c i : ℕ) (r : List ℕ) → Cleared m k c → Filled k n c i r → Filled m n c i r
 filled-cleared m k n c i r w f = record {
   limits = limits-join m k n (w .limits) (f .limits);
-  here = f .here; beyond = f .beyond;
+  here = f .here;
+  beyond = f .beyond;
   others = λ d p ne. f .others d p ne ∙ w .others d p ne;
   room = omega (arith, f .room, cleared-none m k c w, w .room);
 }

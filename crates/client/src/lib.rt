@@ -12,7 +12,6 @@ ghost use Rattle.store.specs.Meaning.{inside, in-span};
 ghost use Rattle.store.specs.Counts.{missing};
 ghost use Rattle.store.specs.Calls.{Put, Cleared, Refused, clear-refusal};
 ghost use Rattle.client.specs.Fill.{fill-refusal, Filled};
-
 use numbering::Closing;
 use numbering::Key;
 use numbering::Place;
@@ -60,12 +59,25 @@ fn put_each<S: NodeStore>(store: &mut S, closing: Closing, n: u32, bytes: &[u8])
     ensures is { λ _. ⌜ Filled (meaning (now (store .entry))) (meaning (now (store .exit))) (closing .0) n (now (bytes .entry)) ⌝ }
 {
     for i in 0..n {
-        must_put(store, Key { closing, place: Place(i + 1) }, n, bytes);
+        must_put(
+            store,
+            Key {
+                closing,
+                place: Place(i + 1),
+            },
+            n,
+            bytes,
+        );
     }
 }
 
 // Whether a closing can be filled up to place n: what the table of `fill_closing` says.
-fn admit_fill<S: NodeStore>(store: &S, closing: Closing, n: u32, width: usize) -> Result<(), Refusal>
+fn admit_fill<S: NodeStore>(
+    store: &S,
+    closing: Closing,
+    n: u32,
+    width: usize,
+) -> Result<(), Refusal>
     requires { ⌜ ok (now store) ⌝ }
     ensures { λ r. ⌜ Answers r (fill-refusal (meaning (now (store .entry))) (closing .0) n width) (λ _. Unit {0}) ⌝ }
 {
@@ -84,7 +96,12 @@ fn admit_fill<S: NodeStore>(store: &S, closing: Closing, n: u32, width: usize) -
 }
 
 // Clears a closing and puts one record at each place from 1 to n. It sees the room first, so that no put is refused.
-pub fn fill_closing<S: NodeStore>(store: &mut S, closing: Closing, n: u32, bytes: &[u8]) -> Result<(), Refusal>
+pub fn fill_closing<S: NodeStore>(
+    store: &mut S,
+    closing: Closing,
+    n: u32,
+    bytes: &[u8],
+) -> Result<(), Refusal>
     requires { ⌜ ok (now store) ⌝ }
     ensures keeps { λ _. ⌜ ok (now (store .exit)) ⌝ }
     ensures answers { λ r. ⌜ Answers r

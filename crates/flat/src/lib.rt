@@ -25,8 +25,8 @@ use numbering::Closing;
 use numbering::Key;
 use numbering::Place;
 use refusal::cases::Refusal;
-use store::limits::Limits;
 use store::NodeStore;
+use store::limits::Limits;
 use types::Flat;
 
 // Whether a store with these limits fits in so many bytes.
@@ -37,7 +37,11 @@ pub fn measure(limits: Limits, memory: usize) -> Result<(), Refusal>
         return Err(Refusal::MemoryUnfit);
     }
     let slots = (limits.last + 1 - limits.first) as usize * limits.bound as usize;
-    if slots * (limits.width + 1) <= memory { Ok(()) } else { Err(Refusal::MemoryUnfit) }
+    if slots * (limits.width + 1) <= memory {
+        Ok(())
+    } else {
+        Err(Refusal::MemoryUnfit)
+    }
 }
 
 // Copies by way of a buffer: the compiler sees that neither copy overlaps, and moves many bytes at once.
@@ -107,8 +111,17 @@ impl Flat {
         ensures is { λ r. ⌜ Empty (flat-meaning r) 1 1 0 2 0 ⌝ }
         ensures kept { λ r. ⌜ vec-len (r .memory) ≡ vec-len memory ⌝ }
     {
-        let limits = Limits { width: 1, first: 1, last: 0, bound: 2 };
-        Flat { memory, limits, room: 0 }
+        let limits = Limits {
+            width: 1,
+            first: 1,
+            last: 0,
+            bound: 2,
+        };
+        Flat {
+            memory,
+            limits,
+            room: 0,
+        }
     }
 
     // The store on a memory that fits, with every mark 0.
@@ -119,8 +132,17 @@ impl Flat {
     {
         let closings = limits.last + 1 - limits.first;
         let mut memory = memory;
-        clear_marks(&mut memory, 0, limits.width + 1, closings as usize * limits.bound as usize);
-        Flat { memory, limits, room: closings as u64 * (limits.bound - 1) as u64 }
+        clear_marks(
+            &mut memory,
+            0,
+            limits.width + 1,
+            closings as usize * limits.bound as usize,
+        );
+        Flat {
+            memory,
+            limits,
+            room: closings as u64 * (limits.bound - 1) as u64,
+        }
     }
 
     // The memory that the store lay in.
@@ -146,7 +168,11 @@ impl Flat {
         requires some { ⌜ (slot-at (vec-items (now self .memory)) (now self .limits .width) at ≡ None → 1 ≤ now self .room) ⌝ }
         ensures { λ r. ⌜ r + cond (isSome (slot-at (vec-items (now (self .entry) .memory)) (now (self .entry) .limits .width) at)) 0 1 ≡ now (self .entry) .room ⌝ }
     {
-        if self.memory[at] == 1 { self.room } else { self.room - 1 }
+        if self.memory[at] == 1 {
+            self.room
+        } else {
+            self.room - 1
+        }
     }
 
     // How many places of a closing are written.
@@ -156,7 +182,10 @@ impl Flat {
     {
         let mut n = 0;
         for k in 0..self.limits.bound - 1 {
-            let at = self.slot(Key { closing, place: Place(k + 1) });
+            let at = self.slot(Key {
+                closing,
+                place: Place(k + 1),
+            });
             if self.memory[at] == 1 {
                 n += 1;
             }
@@ -197,8 +226,16 @@ pub impl NodeStore for Flat as FlatNodeStore {
     fn clear(&mut self, closing: Closing) -> Result<(), Refusal> {
         self.limits.admit_closing(closing)?;
         let n = self.count(closing);
-        let base = self.slot(Key { closing, place: Place(1) });
-        clear_marks(&mut self.memory, base, self.limits.width + 1, self.limits.bound as usize - 1);
+        let base = self.slot(Key {
+            closing,
+            place: Place(1),
+        });
+        clear_marks(
+            &mut self.memory,
+            base,
+            self.limits.width + 1,
+            self.limits.bound as usize - 1,
+        );
         self.room += n as u64;
         Ok(())
     }

@@ -4,7 +4,6 @@ ghost use Prim.Native.Nat.{_+_, _≤_};
 ghost use Rattle.std.specs.Of.Vec.{vec-items, vec-len};
 ghost use Rattle.store.specs.Counts.{held-all};
 ghost use Rattle.flat_theory.specs.Layout.{flat-of, flat-bytes, flat-room};
-
 use store::limits::Limits;
 
 #[derive(Drop)]

@@ -30,9 +30,10 @@ pub slots-apart : (w f b c p d q : ℕ) → f ≤ c → f ≤ d → p < b → q 
 unfolding slot-of
 slots-apart w f b c p d q x y z t ne =
     elim (cases-order ((c - f) * b + p) ((d - f) * b + q)) [
-      inl e ↦ absurd (index-apart f b c p d q x y z t ne e)
-    | inr (inl a) ↦ inr (next-slot ((c - f) * b + p) ((d - f) * b + q) (w + 1) a)
-    | inr (inr a) ↦ inl (next-slot ((d - f) * b + q) ((c - f) * b + p) (w + 1) a) ]
+      | inl e ↦ absurd (index-apart f b c p d q x y z t ne e)
+      | inr (inl a) ↦ inr (next-slot ((c - f) * b + p) ((d - f) * b + q) (w + 1) a)
+      | inr (inr a) ↦ inl (next-slot ((d - f) * b + q) ((c - f) * b + p) (w + 1) a)
+    ]
 
 regroup : (a k : ℕ) → a + (k + 1) ≡ a + 1 + k
 regroup a k = omega arith

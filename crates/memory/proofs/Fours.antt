@@ -45,12 +45,12 @@ be4-put4-same xs i n h =
     let lb : length b ≡ length a = length-set a (i + 1) (n / 65536 % 256) in
     let lc : length c ≡ length b = length-set b (i + 2) (n / 256 % 256) in
     let e0 : getD (set c (i + 3) (n % 256)) i 0 ≡ n / 16777216 =
-      getD-set-other c (i + 3) i (n % 256) 0 (omega arith) ∙ getD-set-other b (i + 2) i (n / 256 % 256) 0 (omega arith)
-      ∙ getD-set-other a (i + 1) i (n / 65536 % 256) 0 (omega arith) ∙ getD-set-same xs i (n / 16777216) 0 (omega arith) in
+    getD-set-other c (i + 3) i (n % 256) 0 (omega arith) ∙ getD-set-other b (i + 2) i (n / 256 % 256) 0 (omega arith)
+    ∙ getD-set-other a (i + 1) i (n / 65536 % 256) 0 (omega arith) ∙ getD-set-same xs i (n / 16777216) 0 (omega arith) in
     let e1 : getD (set c (i + 3) (n % 256)) (i + 1) 0 ≡ n / 65536 % 256 =
-      getD-set-other c (i + 3) (i + 1) (n % 256) 0 (omega arith) ∙ getD-set-other b (i + 2) (i + 1) (n / 256 % 256) 0 (omega arith)
-      ∙ getD-set-same a (i + 1) (n / 65536 % 256) 0 (omega arith) in
+    getD-set-other c (i + 3) (i + 1) (n % 256) 0 (omega arith) ∙ getD-set-other b (i + 2) (i + 1) (n / 256 % 256) 0 (omega arith)
+    ∙ getD-set-same a (i + 1) (n / 65536 % 256) 0 (omega arith) in
     let e2 : getD (set c (i + 3) (n % 256)) (i + 2) 0 ≡ n / 256 % 256 =
-      getD-set-other c (i + 3) (i + 2) (n % 256) 0 (omega arith) ∙ getD-set-same b (i + 2) (n / 256 % 256) 0 (omega arith) in
+    getD-set-other c (i + 3) (i + 2) (n % 256) 0 (omega arith) ∙ getD-set-same b (i + 2) (n / 256 % 256) 0 (omega arith) in
     let e3 : getD (set c (i + 3) (n % 256)) (i + 3) 0 ≡ n % 256 = getD-set-same c (i + 3) (n % 256) 0 (omega arith) in
     omega arith

@@ -33,7 +33,7 @@ pub part-same : (xs ys : List ℕ) (i n : ℕ) → length ys ≡ length xs → (
 part-same xs ys i n l h =
     ext-getD 0 (part ys i n) (part xs i n) (simp (length-take, length-drop) (omega arith))
     (λ k b. let kn : k < n = omega (arith, simp (length-take, length-drop) at b) in
-            getD-take n (drop i ys) k 0 kn ∙ getD-drop i ys k 0 ∙ h (i + k) (omega arith) (omega arith) ∙ sym (getD-take n (drop i xs) k 0 kn ∙ getD-drop i xs k 0))
+    getD-take n (drop i ys) k 0 kn ∙ getD-drop i ys k 0 ∙ h (i + k) (omega arith) (omega arith) ∙ sym (getD-take n (drop i xs) k 0 kn ∙ getD-drop i xs k 0))
 
 pub part-patch-other : (xs : List ℕ) (i : ℕ) (bs : List ℕ) → i + length bs ≤ length xs → (j n : ℕ) → (j + n ≤ i) ⊎ (i + length bs ≤ j) → part (patch xs i bs) j n ≡ part xs j n
 part-patch-other xs i bs fits j n (inl a) = part-same xs (patch xs i bs) j n (length-patch xs i bs fits) (λ k p q. getD-patch xs i bs fits k (inl (omega arith)))

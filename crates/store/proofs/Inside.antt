@@ -43,6 +43,11 @@ valid-out w f l b e =
     let u = and-parts (leb l 9999) _ (t .1) in
     let v = and-parts (leb 2 b) (leb b 2097152) (u .1) in
     record {
-      wide = leb-true 1 w (x .0); narrow = leb-true w 128 (y .0); starts = leb-true 1 f (z .0); some = leb-true f l (t .0);
-      ends = leb-true l 9999 (u .0); two = leb-true 2 b (v .0); most = leb-true b 2097152 (v .1);
+      wide = leb-true 1 w (x .0);
+      narrow = leb-true w 128 (y .0);
+      starts = leb-true 1 f (z .0);
+      some = leb-true f l (t .0);
+      ends = leb-true l 9999 (u .0);
+      two = leb-true 2 b (v .0);
+      most = leb-true b 2097152 (v .1);
     }

@@ -27,8 +27,10 @@ found-set = collapsible→set (λ x y p. sym (there x) ∙ ap back (ap code p) �
 
 limits-prop : (m n : Meaning) → IsProp (SameLimits m n)
 limits-prop m n u v = λ i. record {
-  width = ℕ-set (n .width) (m .width) (u .width) (v .width) i; first = ℕ-set (n .first) (m .first) (u .first) (v .first) i;
-  last = ℕ-set (n .last) (m .last) (u .last) (v .last) i; bound = ℕ-set (n .bound) (m .bound) (u .bound) (v .bound) i;
+  width = ℕ-set (n .width) (m .width) (u .width) (v .width) i;
+  first = ℕ-set (n .first) (m .first) (u .first) (v .first) i;
+  last = ℕ-set (n .last) (m .last) (u .last) (v .last) i;
+  bound = ℕ-set (n .bound) (m .bound) (u .bound) (v .bound) i;
 }
 
 pub put-prop : (m n : Meaning) (c p : ℕ) (r : List ℕ) → IsProp (Put m n c p r)

@@ -73,10 +73,13 @@ put-open m c p n t w h =
 
 pub put-opened : (m : Meaning) (c p n : ℕ) → put-refusal m c p n ≡ None → (inside m c p ≡ true) × (n ≡ m .width) × (m .find c p ≡ None → 1 ≤ m .room)
 put-opened m c p n e =
-    let x = three-out (inside m c p) (eqb n (m .width)) (not (isSome (m .find c p)) && eqb (m .room) 0) e in
-    (x .0, eqb-true n (m .width) (x .1), λ z.
-      let f : eqb (m .room) 0 ≡ false = sym (ap (λ o. not (isSome o) && eqb (m .room) 0) z) ∙ x .2 in
-      omega (arith, eqb-false (m .room) 0 f))
+    let x = three-out (inside m c p) (eqb n (m .width)) (not (isSome (m .find c p)) && eqb (m .room) 0) e in (
+      x .0,
+      eqb-true n (m .width) (x .1),
+      λ z.
+          let f : eqb (m .room) 0 ≡ false = sym (ap (λ o. not (isSome o) && eqb (m .room) 0) z) ∙ x .2 in
+          omega (arith, eqb-false (m .room) 0 f),
+    )
 
 -- what a get refuses a put refuses
 pub put-as-get : (m : Meaning) (c p n : ℕ) (e : Refusal) → get-refusal m c p n ≡ Some e → put-refusal m c p n ≡ Some e

@@ -60,8 +60,9 @@ module _ (m n : Meaning) (c p : ℕ) (r : List ℕ) (t : inside m c p ≡ true) 
   put-room =
       let counted : tally after (n .bound - 1) ≡ tally after (m .bound - 1) = ap (λ k. tally after (k - 1)) (w .limits .bound) in
       elim (cases-bool (isSome (m .find c p))) [
-        inl e ↦ omega (arith, w .room, cond-true {A = ℕ} (isSome (m .find c p)) 0 1 e, tally-same before after (m .bound - 1) (λ j _. all e j), counted)
-      | inr e ↦ omega (arith, w .room, cond-false {A = ℕ} (isSome (m .find c p)) 0 1 e, tally-put before after (m .bound - 1) (p - 1) (omega (arith, i)) (λ j _ d. same j d) (was ∙ e) there, counted) ]
+        | inl e ↦ omega (arith, w .room, cond-true {A = ℕ} (isSome (m .find c p)) 0 1 e, tally-same before after (m .bound - 1) (λ j _. all e j), counted)
+        | inr e ↦ omega (arith, w .room, cond-false {A = ℕ} (isSome (m .find c p)) 0 1 e, tally-put before after (m .bound - 1) (p - 1) (omega (arith, i)) (λ j _ d. same j d) (was ∙ e) there, counted)
+      ]
 
   -- another closing has what it had
   pub put-held : (d : ℕ) → (d ≡ c → ⊥) → held n d ≡ held m d
@@ -73,8 +74,9 @@ module _ (m n : Meaning) (c p : ℕ) (r : List ℕ) (t : inside m c p ≡ true) 
       let m1 = tally-not before k in
       let n1 = tally-not after k in
       elim (cases-bool (isSome (m .find c p))) [
-        inl e ↦ omega (arith, w .room, cond-true {A = ℕ} (isSome (m .find c p)) 0 1 e, tally-same before after k (λ j _. all e j), m1, n1)
-      | inr e ↦ omega (arith, w .room, cond-false {A = ℕ} (isSome (m .find c p)) 0 1 e, tally-put before after k (p - 1) (omega (arith, i)) (λ j _ d. same j d) (was ∙ e) there, m1, n1) ]
+        | inl e ↦ omega (arith, w .room, cond-true {A = ℕ} (isSome (m .find c p)) 0 1 e, tally-same before after k (λ j _. all e j), m1, n1)
+        | inr e ↦ omega (arith, w .room, cond-false {A = ℕ} (isSome (m .find c p)) 0 1 e, tally-put before after k (p - 1) (omega (arith, i)) (λ j _ d. same j d) (was ∙ e) there, m1, n1)
+      ]
 
 -- an absent key of a closing with room for all of it
 pub has-room : (m : Meaning) (c p : ℕ) → inside m c p ≡ true → m .bound - 1 ≤ m .room + held m c → m .find c p ≡ None → 1 ≤ m .room

@@ -57,10 +57,11 @@ pub tally-put : (f g : ℕ → Bool) (n k : ℕ) → k < n → ((j : ℕ) → j 
 tally-put f g zero k l o e t = omega arith
 tally-put f g (suc n) k l o e t =
     elim (cases-eq k n) [
-      inl s ↦ (let z : f n ≡ false = rw (sym s) e in
-               let y : g n ≡ true = rw (sym s) t in
-               omega (arith, tally-same f g n (λ j h. o j (omega arith) (omega arith)), ap bit z, ap bit y))
-    | inr d ↦ omega (arith, tally-put f g n k (omega arith) (λ j h. o j (omega arith)) e t, ap bit (o n (omega arith) (omega arith))) ]
+      | inl s ↦ (let z : f n ≡ false = rw (sym s) e in
+          let y : g n ≡ true = rw (sym s) t in
+          omega (arith, tally-same f g n (λ j h. o j (omega arith) (omega arith)), ap bit z, ap bit y))
+      | inr d ↦ omega (arith, tally-put f g n k (omega arith) (λ j h. o j (omega arith)) e t, ap bit (o n (omega arith) (omega arith)))
+    ]
 
 pub tally-none : (f : ℕ → Bool) (n : ℕ) → ((k : ℕ) → k < n → f k ≡ false) → tally f n ≡ 0
 tally-none f zero h = refl
@@ -84,8 +85,9 @@ pub sum-to-change : (f g : ℕ → ℕ) (n k : ℕ) → k < n → ((j : ℕ) →
 sum-to-change f g zero k l o = omega arith
 sum-to-change f g (suc n) k l o =
     elim (cases-eq k n) [
-      inl e ↦ omega (arith, sum-to-same f g n (λ j h. o j (omega arith)), ap f e, ap g e)
-    | inr d ↦ omega (arith, sum-to-change f g n k (omega arith) o, o n (omega arith)) ]
+      | inl e ↦ omega (arith, sum-to-same f g n (λ j h. o j (omega arith)), ap f e, ap g e)
+      | inr d ↦ omega (arith, sum-to-change f g n k (omega arith) o, o n (omega arith))
+    ]
 
 -- a term is part of the whole
 pub le-sum-to : (f : ℕ → ℕ) (n k : ℕ) → k < n → f k ≤ sum-to f n
@@ -106,5 +108,6 @@ pub sum-to-lt : (f : ℕ → ℕ) (n b k : ℕ) → ((j : ℕ) → f j ≤ b) �
 sum-to-lt f zero b k h l s = omega arith
 sum-to-lt f (suc n) b k h l s =
     elim (cases-eq k n) [
-      inl e ↦ omega (arith, sum-to-le f n b h, ap f e, suc-mul n b)
-    | inr d ↦ omega (arith, sum-to-lt f n b k h (omega arith) s, h n, suc-mul n b) ]
+      | inl e ↦ omega (arith, sum-to-le f n b h, ap f e, suc-mul n b)
+      | inr d ↦ omega (arith, sum-to-lt f n b k h (omega arith) s, h n, suc-mul n b)
+    ]

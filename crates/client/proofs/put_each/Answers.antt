@@ -16,10 +16,11 @@ turn m k c n i r f s b h =
 
 pub loop-i-holds : need.loop-i-holds
 loop-i-holds g c =
-    let m : Meaning = g .S·NodeStore .meaning (c .args .store .now) in
-    ( c .pre .sound
-    , filled-none m (c .args .closing .0) (c .args .bytes .now) (c .pre .absent)
-    , omega (arith, missing-le m (c .args .closing .0) (c .args .n), c .pre .room) )
+    let m : Meaning = g .S·NodeStore .meaning (c .args .store .now) in (
+      c .pre .sound,
+      filled-none m (c .args .closing .0) (c .args .bytes .now) (c .pre .absent),
+      omega (arith, missing-le m (c .args .closing .0) (c .args .n), c .pre .room),
+    )
 
 pub must-put-requires : need.must-put-requires
 must-put-requires g c κs =
@@ -40,10 +41,11 @@ loop-i-again g c =
     let k : Meaning = g .S·NodeStore .meaning (c .loop-i .store) in
     let n : Meaning = g .S·NodeStore .meaning (c .must-put .last .store) in
     let f = c .loop-i .inv .1 in
-    let t = turn m k (c .args .closing .0) (c .args .n) (c .loop-i .i) (c .args .bytes .now) f (span-out (m .first) (m .last) (c .args .closing .0) (c .pre .within)) (c .pre .below) (c .loop-i-test .taken) in
-    ( c .must-put .ensures .keeps
-    , filled-more m k n (c .args .closing .0) (c .loop-i .i) (c .args .bytes .now) f (c .must-put .ensures .is)
-    , omega (arith, put-missing k n (c .args .closing .0) (c .loop-i .i + 1) (c .args .bytes .now) t (c .must-put .ensures .is) (c .args .n) (omega arith), c .loop-i .inv .2) )
+    let t = turn m k (c .args .closing .0) (c .args .n) (c .loop-i .i) (c .args .bytes .now) f (span-out (m .first) (m .last) (c .args .closing .0) (c .pre .within)) (c .pre .below) (c .loop-i-test .taken) in (
+      c .must-put .ensures .keeps,
+      filled-more m k n (c .args .closing .0) (c .loop-i .i) (c .args .bytes .now) f (c .must-put .ensures .is),
+      omega (arith, put-missing k n (c .args .closing .0) (c .loop-i .i + 1) (c .args .bytes .now) t (c .must-put .ensures .is) (c .args .n) (omega arith), c .loop-i .inv .2),
+    )
 
 pub returns : need.returns
 returns g c =

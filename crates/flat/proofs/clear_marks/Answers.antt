@@ -22,10 +22,12 @@ loop-i-again c =
     let s = c .args .step in
     let m = c .loop-i .memory .items in
     let inv = c .loop-i .inv in
-    let h : c .loop-i .at < length m = omega (arith, next-slot i (c .args .n) s (c .loop-i-test .taken), c .loop-i .memory .ok .0) in
-    ( omega (arith, add-mul i 1 s, one-mul s)
-    , inv .1
-    , (λ k l. elim (cases-eq k i) [
-        inl e ↦ (let at : b + k * s ≡ c .loop-i .at = ap (λ x. b + x * s) e ∙ sym (inv .0) in rw at (getD-set-same m (c .loop-i .at) 0 0 h))
-      | inr d ↦ getD-set-other m (c .loop-i .at) (b + k * s) 0 0 (omega (arith, next-slot k i s (omega arith))) ∙ inv .2 k (omega arith) ])
-    , (λ j o. getD-set-other m (c .loop-i .at) j 0 0 (λ e. o i (omega arith) (e ∙ inv .0)) ∙ inv .3 j (λ k l. o k (omega arith))) )
+    let h : c .loop-i .at < length m = omega (arith, next-slot i (c .args .n) s (c .loop-i-test .taken), c .loop-i .memory .ok .0) in (
+      omega (arith, add-mul i 1 s, one-mul s),
+      inv .1,
+      (λ k l. elim (cases-eq k i) [
+        | inl e ↦ (let at : b + k * s ≡ c .loop-i .at = ap (λ x. b + x * s) e ∙ sym (inv .0) in rw at (getD-set-same m (c .loop-i .at) 0 0 h))
+        | inr d ↦ getD-set-other m (c .loop-i .at) (b + k * s) 0 0 (omega (arith, next-slot k i s (omega arith))) ∙ inv .2 k (omega arith)
+      ]),
+      (λ j o. getD-set-other m (c .loop-i .at) j 0 0 (λ e. o i (omega arith) (e ∙ inv .0)) ∙ inv .3 j (λ k l. o k (omega arith))),
+    )

@@ -16,7 +16,10 @@ returns-then-i-ne0 c =
     let t = get-opened (chained-meaning s) k p (length (c .args .bytes .now)) (c .in-Continue-admit .ensures tt .0) in
     record {
       keeps = tt;
-      answers = (put-open (chained-meaning s) k p (length (c .args .bytes .now)) (t .0) (t .1)
-        (λ e. absurd (found-some (vec-items (s .memory)) (n .width) (s .count) (n .first) (n .last) (n .bound) k p (t .0) (λ z. c .if-i-ne0 .taken (c .seek-i .ensures .is ∙ z)) e)), c .overwrite .ensures);
+      answers = (
+        put-open (chained-meaning s) k p (length (c .args .bytes .now)) (t .0) (t .1)
+            (λ e. absurd (found-some (vec-items (s .memory)) (n .width) (s .count) (n .first) (n .last) (n .bound) k p (t .0) (λ z. c .if-i-ne0 .taken (c .seek-i .ensures .is ∙ z)) e)),
+        c .overwrite .ensures,
+      );
       refused = tt;
     }

@@ -26,7 +26,7 @@ clear-marks-requires c κs =
     let i = span-out (n .first) (n .last) (c .args .closing .0) (held-open (flat-meaning s) (c .args .closing .0) (c .in-Continue-admit-closing .ensures tt .0)) in
     let k = n .bound - 2 in
     let last : slot-of (n .width) (n .first) (n .bound) (c .args .closing .0) (k + 1) + (n .width + 1) ≤ (n .last + 1 - n .first) * n .bound * (n .width + 1) =
-      slot-fits (n .width) (n .first) (n .last) (n .bound) (c .args .closing .0) (k + 1) (i .0) (i .1) (omega arith) in
+    slot-fits (n .width) (n .first) (n .last) (n .bound) (c .args .closing .0) (k + 1) (i .0) (i .1) (omega arith) in
     let r : slot-of (n .width) (n .first) (n .bound) (c .args .closing .0) (k + 1) ≡ slot-of (n .width) (n .first) (n .bound) (c .args .closing .0) 1 + k * (n .width + 1) = row-slot (n .width) (n .first) (n .bound) (c .args .closing .0) k in
     let m : (k + 1) * (n .width + 1) ≡ k * (n .width + 1) + 1 * (n .width + 1) = add-mul k 1 (n .width + 1) in
     let e : n .bound - 1 ≡ k + 1 = omega arith in
@@ -42,7 +42,7 @@ done : (s : Flat) (v : Vec ℕ Global) (k n base : ℕ) → held-refusal (flat-m
 done s v k n base open-to e len marks rest count =
     let m = s .limits in
     clear-slots (vec-items (s .memory)) (vec-items v) (m .width) (m .first) (m .last) (m .bound) k (s .room) n base e (omega (arith, len, s .memory .ok .0, v .ok .0))
-      (span-out (m .first) (m .last) k (held-open (flat-meaning s) k open-to)) marks rest count
+    (span-out (m .first) (m .last) k (held-open (flat-meaning s) k open-to)) marks rest count
 
 pub ghost-self : need.ghost-self
 ghost-self c =

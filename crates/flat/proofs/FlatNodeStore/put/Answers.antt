@@ -43,9 +43,19 @@ ghost-self c =
     let n = s .limits in
     let k = c .args .key .closing .0 in
     let p = c .args .key .place .0 in
-    let t = get-opened (flat-meaning s) k p (length (c .args .bytes .now)) (c .in-Continue-admit .ensures tt .0) in
-    (s .narrow, (s .span, (s .places, (omega (arith, s .fits, c .write-slot .ensures .len),
-      (put-all (flat-meaning s) _ k p (c .args .bytes .now) (t .0) (key-span (n .first) (n .last) (n .bound) k p (t .0)) (done s (vec-items (c .write-slot .last .memory)) k p (c .room-after-room .result) (c .slot-at .result) (c .args .bytes .now) (c .in-Continue-admit .ensures tt .0) (c .slot-at .ensures .is) (c .write-slot .ensures .items) (c .room-after-room .ensures)) ∙ s .counts, tt)))))
+    let t = get-opened (flat-meaning s) k p (length (c .args .bytes .now)) (c .in-Continue-admit .ensures tt .0) in (
+      s .narrow,
+      (
+        s .span,
+        (
+          s .places,
+          (
+            omega (arith, s .fits, c .write-slot .ensures .len),
+            (put-all (flat-meaning s) _ k p (c .args .bytes .now) (t .0) (key-span (n .first) (n .last) (n .bound) k p (t .0)) (done s (vec-items (c .write-slot .last .memory)) k p (c .room-after-room .result) (c .slot-at .result) (c .args .bytes .now) (c .in-Continue-admit .ensures tt .0) (c .slot-at .ensures .is) (c .write-slot .ensures .items) (c .room-after-room .ensures)) ∙ s .counts, tt),
+          ),
+        ),
+      ),
+    )
 
 pub returns : need.returns
 returns c =

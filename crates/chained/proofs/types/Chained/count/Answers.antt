@@ -13,4 +13,4 @@ returns c =
     let m = vec-items (s .memory) in
     let i = span-out (s .limits .first) (s .limits .last) (c .args .closing) (c .pre) in
     ∥∥₁-elim (s .linked (s .alive (omega arith))) (ℕ-set _ _) (λ k.
-      c .count-of .ensures .is ∙ sym (held-count m (s .limits .width) (s .count) (s .limits .first) (s .limits .last) (s .limits .bound) (s .room) (c .args .closing) (k .keys) (omega arith) (k .laid) i))
+    c .count-of .ensures .is ∙ sym (held-count m (s .limits .width) (s .count) (s .limits .first) (s .limits .last) (s .limits .bound) (s .room) (c .args .closing) (k .keys) (omega arith) (k .laid) i))

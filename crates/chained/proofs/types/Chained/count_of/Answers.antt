@@ -16,7 +16,8 @@ loop-k-again c =
     let k = c .loop-k .k in
     let f : ℕ → Bool = λ q. eqb (closing-at (vec-items (s .memory)) (s .limits .width) (q + 1)) (c .args .c) in
     elim (c .if-closing-c .came) [
-      then-closing-c v ↦ (let b : cond {A = ℕ} (f k) 1 0 ≡ 1 = cond-true {A = ℕ} (f k) 1 0 (eq-eqb _ (c .args .c) (sym (c .closing .ensures) ∙ v .if-closing-c .taken)) in
-        (omega (arith, v .n-is), omega (arith, v .n-is, tally-more f k, b, c .loop-k .inv .1)))
-    | else-closing-c v ↦ (let b : cond {A = ℕ} (f k) 1 0 ≡ 0 = cond-false {A = ℕ} (f k) 1 0 (ne-eqb _ (c .args .c) (λ e. v .if-closing-c .left (c .closing .ensures ∙ e))) in
-        (omega (arith, v .n-is), omega (arith, v .n-is, tally-more f k, b, c .loop-k .inv .1))) ]
+      | then-closing-c v ↦ (let b : cond {A = ℕ} (f k) 1 0 ≡ 1 = cond-true {A = ℕ} (f k) 1 0 (eq-eqb _ (c .args .c) (sym (c .closing .ensures) ∙ v .if-closing-c .taken)) in
+          (omega (arith, v .n-is), omega (arith, v .n-is, tally-more f k, b, c .loop-k .inv .1)))
+      | else-closing-c v ↦ (let b : cond {A = ℕ} (f k) 1 0 ≡ 0 = cond-false {A = ℕ} (f k) 1 0 (ne-eqb _ (c .args .c) (λ e. v .if-closing-c .left (c .closing .ensures ∙ e))) in
+          (omega (arith, v .n-is), omega (arith, v .n-is, tally-more f k, b, c .loop-k .inv .1)))
+    ]

@@ -30,13 +30,37 @@ ghost-self c =
     let m : List ℕ = vec-items (s .memory) in
     let m′ : List ℕ = vec-items (c .relay-in-n .last .memory) in
     let one : 1 ≤ s .count = s .alive (omega arith) in
-    let e = c .relay-in-n .ensures .is in
-    (s .narrow, (s .span, (s .places, ((∥∥₁-elim (s .linked one) le-prop (λ k. omega (arith, e, clear-few m m′ (s .limits .width) (s .count) (s .limits .first) (s .limits .last) (s .limits .bound) (s .room) a k (s .span .0) (omega arith) (c .relay-in-n .ensures .laid) (c .relay-in-n .ensures .forgot))), s .few .1)
-    , (s .alive, ((λ z. let q : ⊥ = omega arith in absurd q), ((λ _. omega (arith, s .fits one, c .relay-in-n .ensures .len))
-    , ((λ _. laid-heads m′ (s .limits .width) (s .count) (c .relay-in-n .ensures .laid))
-    , (c .relay-in-n .ensures .nexts
-    , ((λ _. ∥∥₁-map (s .linked one) (λ k. subst (λ z. Linked m′ (s .limits .width) (s .count) (s .limits .first) (s .limits .last) (s .limits .bound) (s .room + z)) (sym e) (clear-linked m m′ (s .limits .width) (s .count) (s .limits .first) (s .limits .last) (s .limits .bound) (s .room) a k (s .span .0) (omega arith) (c .relay-in-n .ensures .laid) (c .relay-in-n .ensures .forgot))))
-    , tt))))))))))
+    let e = c .relay-in-n .ensures .is in (
+      s .narrow,
+      (
+        s .span,
+        (
+          s .places,
+          (
+            (∥∥₁-elim (s .linked one) le-prop (λ k. omega (arith, e, clear-few m m′ (s .limits .width) (s .count) (s .limits .first) (s .limits .last) (s .limits .bound) (s .room) a k (s .span .0) (omega arith) (c .relay-in-n .ensures .laid) (c .relay-in-n .ensures .forgot))), s .few .1),
+            (
+              s .alive,
+              (
+                (λ z. let q : ⊥ = omega arith in absurd q),
+                (
+                  (λ _. omega (arith, s .fits one, c .relay-in-n .ensures .len)),
+                  (
+                    (λ _. laid-heads m′ (s .limits .width) (s .count) (c .relay-in-n .ensures .laid)),
+                    (
+                      c .relay-in-n .ensures .nexts,
+                      (
+                        (λ _. ∥∥₁-map (s .linked one) (λ k. subst (λ z. Linked m′ (s .limits .width) (s .count) (s .limits .first) (s .limits .last) (s .limits .bound) (s .room + z)) (sym e) (clear-linked m m′ (s .limits .width) (s .count) (s .limits .first) (s .limits .last) (s .limits .bound) (s .room) a k (s .span .0) (omega arith) (c .relay-in-n .ensures .laid) (c .relay-in-n .ensures .forgot)))),
+                        tt,
+                      ),
+                    ),
+                  ),
+                ),
+              ),
+            ),
+          ),
+        ),
+      ),
+    )
 
 pub returns : need.returns
 returns c =
@@ -47,5 +71,5 @@ returns c =
     let m′ : List ℕ = vec-items (c .relay-in-n .last .memory) in
     let one : 1 ≤ s .count = s .alive (omega arith) in
     ∥∥₁-elim (s .linked one) (cleared-prop _ _ _) (λ k.
-      subst (λ z. Cleared (chained-of m (s .limits .width) (s .count) (s .limits .first) (s .limits .last) (s .limits .bound) (s .room)) (chained-of m′ (s .limits .width) (s .count) (s .limits .first) (s .limits .last) (s .limits .bound) (s .room + z)) a) (sym (c .relay-in-n .ensures .is))
-        (cleared m m′ (s .limits .width) (s .count) (s .limits .first) (s .limits .last) (s .limits .bound) (s .room) a k (s .span .0) (omega arith) (c .relay-in-n .ensures .laid) (c .relay-in-n .ensures .forgot) i))
+    subst (λ z. Cleared (chained-of m (s .limits .width) (s .count) (s .limits .first) (s .limits .last) (s .limits .bound) (s .room)) (chained-of m′ (s .limits .width) (s .count) (s .limits .first) (s .limits .last) (s .limits .bound) (s .room + z)) a) (sym (c .relay-in-n .ensures .is))
+    (cleared m m′ (s .limits .width) (s .count) (s .limits .first) (s .limits .last) (s .limits .bound) (s .room) a k (s .span .0) (omega arith) (c .relay-in-n .ensures .laid) (c .relay-in-n .ensures .forgot) i))

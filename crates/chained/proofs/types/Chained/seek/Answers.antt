@@ -19,6 +19,7 @@ returns-then-has-key c =
 pub loop-left-again : need.loop-left-again
 loop-left-again c =
     let s = c .args .self .now in
-    let more = seek-more (vec-items (s .memory)) (s .limits .width) (c .loop-left .left) (c .loop-left .i) (c .args .c) (c .args .p) (c .loop-left-test .taken) (c .if-i-eq0 .left) (sym (c .if-has-key .ensures tt)) in
-    ( omega (arith, c .next-i .ensures, s .nexts (c .loop-left .i) (omega arith) (c .loop-left .inv .0))
-    , ap (λ i. seek-from (vec-items (s .memory)) (s .limits .width) (c .loop-left .left - 1) i (c .args .c) (c .args .p)) (c .next-i .ensures) ∙ sym more ∙ c .loop-left .inv .1 )
+    let more = seek-more (vec-items (s .memory)) (s .limits .width) (c .loop-left .left) (c .loop-left .i) (c .args .c) (c .args .p) (c .loop-left-test .taken) (c .if-i-eq0 .left) (sym (c .if-has-key .ensures tt)) in (
+      omega (arith, c .next-i .ensures, s .nexts (c .loop-left .i) (omega arith) (c .loop-left .inv .0)),
+      ap (λ i. seek-from (vec-items (s .memory)) (s .limits .width) (c .loop-left .left - 1) i (c .args .c) (c .args .p)) (c .next-i .ensures) ∙ sym more ∙ c .loop-left .inv .1,
+    )

@@ -36,7 +36,8 @@ loop-k-again c =
     let read : x ≡ getD mem (c .slot-at .result) 0 = getD-read mem (c .slot-at .result) x within (c .index .ensures) 0 in
     let bit : f k ≡ eqb x 1 = isSome-flat-find mem (n .width) (n .first) (n .last) (n .bound) (c .args .closing .0) (k + 1) t ∙ ap (λ i. eqb (getD mem i 0) 1) (sym (c .slot-at .ensures .is)) ∙ ap (λ y. eqb y 1) (sym read) in
     elim (c .if-index-eq1 .came) [
-      then-index-eq1 w ↦ (let b : cond {A = ℕ} (f k) 1 0 ≡ 1 = cond-true {A = ℕ} (f k) 1 0 (bit ∙ eq-eqb x 1 (w .if-index-eq1 .taken)) in
-        (omega (arith, w .n-is), omega (arith, w .n-is, tally-more f k, b, c .loop-k .inv .1)))
-    | else-index-eq1 w ↦ (let b : cond {A = ℕ} (f k) 1 0 ≡ 0 = cond-false {A = ℕ} (f k) 1 0 (bit ∙ ne-eqb x 1 (w .if-index-eq1 .left)) in
-        (omega (arith, w .n-is), omega (arith, w .n-is, tally-more f k, b, c .loop-k .inv .1))) ]
+      | then-index-eq1 w ↦ (let b : cond {A = ℕ} (f k) 1 0 ≡ 1 = cond-true {A = ℕ} (f k) 1 0 (bit ∙ eq-eqb x 1 (w .if-index-eq1 .taken)) in
+          (omega (arith, w .n-is), omega (arith, w .n-is, tally-more f k, b, c .loop-k .inv .1)))
+      | else-index-eq1 w ↦ (let b : cond {A = ℕ} (f k) 1 0 ≡ 0 = cond-false {A = ℕ} (f k) 1 0 (bit ∙ ne-eqb x 1 (w .if-index-eq1 .left)) in
+          (omega (arith, w .n-is), omega (arith, w .n-is, tally-more f k, b, c .loop-k .inv .1)))
+    ]

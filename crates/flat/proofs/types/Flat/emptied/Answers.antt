@@ -19,7 +19,13 @@ pub returns : need.returns
 returns c =
     let n = c .args .limits in
     record {
-      is = record { same-width = refl; same-first = refl; same-last = refl; same-bound = refl; same-room = refl;
-        none = none-found (vec-items (c .clear-marks .last .memory)) (n .width) (n .first) (n .last) (n .bound) (c .clear-marks .ensures .marks) };
+      is = record {
+        same-width = refl;
+        same-first = refl;
+        same-last = refl;
+        same-bound = refl;
+        same-room = refl;
+        none = none-found (vec-items (c .clear-marks .last .memory)) (n .width) (n .first) (n .last) (n .bound) (c .clear-marks .ensures .marks);
+      };
       kept = c .clear-marks .ensures .len;
     }
