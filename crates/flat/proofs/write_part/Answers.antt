@@ -10,5 +10,5 @@ pub returns : need.returns
 unfolding patch
 returns c =
     let bs = c .args .bytes .now in
-    putMid-paste _ _ (c .args .memory .now) _ bs (length bs) (c .copy-from-slice .ensures .after) (omega arith) refl
+    putMid-paste _ _ (c .args .memory .now) _ bs (length bs) (c .copy-through .ensures) (omega arith) refl
     ∙ paste-all (c .args .memory .now) (c .args .at) bs (length bs) refl
