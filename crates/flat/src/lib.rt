@@ -42,8 +42,6 @@ pub fn measure(limits: Limits, memory: usize) -> Result<(), Refusal>
     } else {
         Err(Refusal::MemoryUnfit)
     }
-<<<<<<< HEAD
-=======
 }
 
 // Copies by way of a buffer: the compiler sees that neither copy overlaps, and moves many bytes at once.
@@ -55,7 +53,6 @@ fn copy_through(into: &mut [u8], bytes: &[u8], buffer: &mut [u8])
     let n = bytes.len();
     buffer[0..n].copy_from_slice(bytes);
     into.copy_from_slice(&buffer[0..n]);
->>>>>>> stores
 }
 
 // Writes bytes over those from `at` on.
