@@ -11,12 +11,13 @@ ghost use lib.ListN.{length};
 ghost use Rattle.std.specs.declared.option.Option.the-variants.{Some};
 ghost use Rattle.refusal.specs.declared.cases.Refusal.the-variants.{BufferTooShort};
 ghost use Rattle.refusal.specs.Tables.{_⇒_, first, written, Answers};
-ghost use Rattle.sheet.specs.Layout.{sheet-bytes, sheet-refusal, read-sheet};
+ghost use Rattle.sheet.specs.Layout.{head as head-bytes, sheet-bytes, sheet-refusal, read-sheet};
 ghost use Rattle.sheet.specs.Meant.{sheet-of};
 
 pub mod types;
 
 use amount::Amount;
+use bytes::be4;
 use bytes::read4;
 use digest::Digest;
 use node::read_node;
@@ -36,7 +37,8 @@ fn other_kinds<A: Amount, D: Digest>(digest: &D, amount_kind: u8, digest_kind: u
 // The sheet that these bytes are; refused by the first condition of its table.
 pub fn read<A: Amount, D: Digest>(digest: &D, bytes: &[u8]) -> Result<Sheet<A>, Refusal>
     ensures { λ r. ⌜ Answers r (sheet-refusal kind (D·Digest .hash (now (digest .entry))) (now (bytes .entry)))
-        (λ s. read-sheet kind (D·Digest .hash (now (digest .entry))) (now (bytes .entry)) ≡ Some (sheet-of meaning s)) ⌝ }
+        (λ s. (read-sheet kind (D·Digest .hash (now (digest .entry))) (now (bytes .entry)) ≡ Some (sheet-of meaning s))
+            × (sheet-bytes kind (D·Digest .hash (now (digest .entry))) (sheet-of meaning s) ≡ now (bytes .entry))) ⌝ }
 {
     if bytes.len() != 39 + A::width() {
         return Err(Refusal::SheetLength);
@@ -56,5 +58,31 @@ pub fn read<A: Amount, D: Digest>(digest: &D, bytes: &[u8]) -> Result<Sheet<A>, 
     match read_node(&rest[4..rest.len()]) {
         Ok(root) => Ok(Sheet { closing: Closing(number), depth: *depth, root }),
         Err(_) => Err(Refusal::BadAmount(39)),
+    }
+}
+
+// The first seven bytes of a sheet, and of each of its files.
+pub fn head<A: Amount, D: Digest>(digest: &D, closing: Closing, depth: u8) -> [u8; 7]
+    ensures { λ r. ⌜ r ≡ head-bytes kind (D·Digest .hash (now (digest .entry))) (closing .0) depth ⌝ }
+{
+    let [a, b, c, d] = be4(closing.0);
+    [A::number(), digest.number(), depth, a, b, c, d]
+}
+
+// Writes the sheet to the front of the buffer, and answers its length.
+pub fn write<A: Amount, D: Digest>(digest: &D, sheet: &Sheet<A>, out: &mut [u8]) -> Result<usize, Refusal>
+    ensures answers { λ r. ⌜ Answers r
+        (first ((ltb (length (now (out .entry))) (39 + kind .width) ⇒ BufferTooShort) ∷ []))
+        (λ n. (n ≡ 39 + kind .width) × (now (out .exit) ≡ written (sheet-bytes kind (D·Digest .hash (now (digest .entry))) (sheet-of meaning (now (sheet .entry)))) (now (out .entry)))) ⌝ }
+    ensures refused { λ _. ⌜ (length (now (out .entry)) < 39 + kind .width → now (out .exit) ≡ now (out .entry)) ⌝ }
+{
+    let end = 39 + A::width();
+    if out.len() < end {
+        return Err(Refusal::BufferTooShort);
+    }
+    out[0..7].copy_from_slice(&head::<A, D>(digest, sheet.closing, sheet.depth));
+    match write_node(&sheet.root, &mut out[7..end]) {
+        Ok(_) => Ok(end),
+        Err(_) => unreachable(),
     }
 }

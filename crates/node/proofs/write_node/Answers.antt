@@ -4,7 +4,7 @@ use Prim.Native.Nat.{ℕ, _+_, _-_, _≤_}
 use native.Mathlib.Omega.{arith}
 use borrow.Author.Needs.{needs}
 use borrow.Rule.Slice.PartMut.{putMid, postOf}
-use lib.ListN.{length, take, drop, length-take}
+use lib.ListN.{length, take, drop, length-take, length-append}
 use Rattle.refusal.specs.Tables.{written}
 use Rattle.refusal.proofs.Buffers.{written-all}
 use Rattle.node.proofs.NodeBytes.{two-parts}
@@ -28,6 +28,6 @@ returns g c =
     let s = two-parts out d (c .write .last .out) 32 (32 + w - 32) (ap length f ∙ n) k
     ∙ ap (λ x. written (x ++ c .write .last .out) out) f ∙ ap (λ x. written (c .args .node .now .digest ++ x) out) e in
     record {
-      answers = (search needs, (ap (λ x. 32 + x) (c .width-end .ensures), s));
+      answers = (search needs, (ap (λ x. 32 + x) (c .width-end .ensures), simp length-append (omega arith), s));
       refused = λ h. absurd (omega (arith, c .width-end .ensures));
     }

@@ -20,7 +20,7 @@ returns-in-Ok g c =
     let r = take (length s - 3) (drop 3 s) in
     at-sheet (g .A·Amount .kind) (g .D·Digest .hash (c .args .digest .now)) s (c .if-bytes-width .left ∙ ap (λ w. 39 + w) (c .width .ensures)) (sym (c .if-other-kinds .ensures tt))
     (c .in-Some .number) (c .in-Some .ensures tt ∙ ap (λ x. value (take 4 x)) (behind-3 s)) (sym (c .if-bad-limits .ensures tt))
-    (take (length r - 4) (drop 4 r)) (node-of (g .A·Amount .meaning) (c .in-Ok .root)) (behind-7 s r (behind-3 s)) (c .in-Ok .ensures tt .0) (c .in-Ok .ensures tt .1)
+    (g .A·Amount·met .lawful) (λ i. omega (arith, c .typed .bytes i)) (take (length r - 4) (drop 4 r)) (node-of (g .A·Amount .meaning) (c .in-Ok .root)) (behind-7 s r (behind-3 s)) (c .in-Ok .ensures tt .0) (c .in-Ok .ensures tt .1)
 
 pub returns-in-Err : need.returns-in-Err
 returns-in-Err g c =
