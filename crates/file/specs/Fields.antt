@@ -26,6 +26,10 @@ length-at width (suc (suc zero)) = 16
 length-at width (suc (suc (suc zero))) = width
 length-at width (suc (suc (suc (suc j)))) = 32 + width
 
+-- which field step j is
+abbrev pub step-index : ℕ → ℕ
+step-index j = suc (suc (suc (suc j)))
+
 -- field i of a file
 abbrev pub field-bytes : ℕ → List ℕ → ℕ → List ℕ
 field-bytes width file i = take (length-at width i) (drop (offset-at width i) file)
