@@ -3,11 +3,12 @@ use mathlib.Core.Path.{_≡_, refl, sym, ap, subst, _∙_}
 use mathlib.Core.Bool.{Bool, true, false, cond, _&&_}
 use mathlib.Core.List.{List, [], _∷_}
 use Prim.Native.Nat.{ℕ, zero, suc, _+_, _-_, _*_, _<_, _≤_}
-use native.Mathlib.Nat.{mul-le-mul-right}
+use native.Mathlib.Nat.{mul-le-mul-right, add-zero, zero-add}
 use native.Mathlib.Numerals.{add-one}
 use native.Mathlib.Omega.{arith}
 use lib.Dec.{leb, eqb, le→leb}
-use lib.ListN.{length, drop}
+use lib.ListN.{length, drop, length-take, length-drop}
+use Rattle.file.proofs.Ends.{within}
 use Rattle.std.specs.Options.{isSome}
 use Rattle.std.specs.declared.option.Option.{Option}
 use Rattle.std.specs.declared.option.Option.the-variants.{Some, None}
@@ -16,9 +17,9 @@ use Rattle.refusal.specs.declared.cases.Refusal.the-variants.{BadAmount}
 use Rattle.amount.specs.Kinds.{Kind}
 use Rattle.file.specs.declared.types.Found.{Found}
 use Rattle.file.specs.Layout.{file-length}
-use Rattle.file.specs.Fields.{offset-at, field-bytes, field-count, Is-field}
+use Rattle.file.specs.Fields.{offset-at, length-at, field-bytes, field-count, Is-field}
 use Rattle.bytes.proofs.Passes.{true-T, both-in, eqb-in}
-use Rattle.check.specs.Checks.{or-else, step-refusal, field-refusal, fields-refusal}
+use Rattle.check.specs.Checks.{or-else, step-refusal, field-refusal, first-from}
 
 is-step : (k : Kind) (s : List ℕ) (i : ℕ) → 4 ≤ i → field-refusal k s i ≡ step-refusal k s i
 is-step k s zero h = absurd (omega arith)
@@ -50,20 +51,20 @@ offset-small width (suc (suc (suc (suc j)))) w h =
     omega arith
 
 -- one field less to judge
-module _ (k : Kind) (s : List ℕ) (count i : ℕ) (h : i < count) where
+module _ (refusal : ℕ → Option Refusal) (count i : ℕ) (h : i < count) where
   more : count - i ≡ suc (count - (i + 1))
   more = omega arith
 
-  pub fields-next : field-refusal k s i ≡ None → fields-refusal k s (count - i) i ≡ fields-refusal k s (count - (i + 1)) (i + 1)
+  pub fields-next : refusal i ≡ None → first-from refusal (count - i) i ≡ first-from refusal (count - (i + 1)) (i + 1)
   fields-next e =
-      ap (λ m. fields-refusal k s m i) more ∙ ap (λ o. or-else o (fields-refusal k s (count - (i + 1)) (suc i))) e
-      ∙ ap (fields-refusal k s (count - (i + 1))) (sym (add-one i))
+      ap (λ m. first-from refusal m i) more ∙ ap (λ o. or-else o (first-from refusal (count - (i + 1)) (suc i))) e
+      ∙ ap (first-from refusal (count - (i + 1))) (sym (add-one i))
 
-  pub fields-stop : (r : Refusal) → field-refusal k s i ≡ Some r → fields-refusal k s (count - i) i ≡ Some r
-  fields-stop r e = ap (λ m. fields-refusal k s m i) more ∙ ap (λ o. or-else o (fields-refusal k s (count - (i + 1)) (suc i))) e
+  pub fields-stop : (r : Refusal) → refusal i ≡ Some r → first-from refusal (count - i) i ≡ Some r
+  fields-stop r e = ap (λ m. first-from refusal m i) more ∙ ap (λ o. or-else o (first-from refusal (count - (i + 1)) (suc i))) e
 
-pub fields-done : (k : Kind) (s : List ℕ) (count i : ℕ) → count ≤ i → fields-refusal k s (count - i) i ≡ None
-fields-done k s count i h = ap (λ m. fields-refusal k s m i) (let e : count - i ≡ 0 = omega arith in e)
+pub fields-done : (refusal : ℕ → Option Refusal) (count i : ℕ) → count ≤ i → first-from refusal (count - i) i ≡ None
+fields-done refusal count i h = ap (λ m. first-from refusal m i) (let e : count - i ≡ 0 = omega arith in e)
 
 -- a file of the right length has all its fields
 pub all-fields : (width depth size : ℕ) → depth ≤ 20 → size ≡ file-length width depth → field-count width depth size ≡ 4 + depth
@@ -74,3 +75,25 @@ all-fields width depth size d e =
 -- a field of an equal file at an equal width
 pub same-field : (w v : ℕ) (s t : List ℕ) (i : ℕ) (f : Found) → w ≡ v → s ≡ t → Is-field w s i f → Is-field v t i f
 same-field w v s t i f p q h = subst (λ x. Is-field v x i f) q (subst (λ x. Is-field x s i f) p h)
+
+-- where no field is refused, each one is not
+or-none : (a b : Option Refusal) → or-else a b ≡ None → (a ≡ None) × (b ≡ None)
+or-none None b e = (refl, e)
+or-none (Some r) b e = absurd (let z : _≡_ {A = ℕ} 0 1 = cc in omega arith)
+
+none-from : (refusal : ℕ → Option Refusal) (more a j : ℕ) → first-from refusal more a ≡ None → j < more → refusal (a + j) ≡ None
+none-from refusal zero a j e h = absurd (omega arith)
+none-from refusal (suc more) a zero e h = ap refusal (add-zero a) ∙ or-none (refusal a) (first-from refusal more (suc a)) e .0
+none-from refusal (suc more) a (suc j) e h =
+    ap refusal (let q : a + suc j ≡ suc a + j = omega arith in q) ∙ none-from refusal more (suc a) j (or-none (refusal a) (first-from refusal more (suc a)) e .1) (omega arith)
+
+pub none-at : (refusal : ℕ → Option Refusal) (count i : ℕ) → first-from refusal count 0 ≡ None → i < count → refusal i ≡ None
+none-at refusal count i e h = ap refusal (sym (zero-add i)) ∙ none-from refusal count 0 i e h
+
+-- a field has its length
+pub field-long : (width : ℕ) (s : List ℕ) (i depth : ℕ) → length s ≡ file-length width depth → i < 4 + depth → length (field-bytes width s i) ≡ length-at width i
+field-long width s i depth e h =
+    let w = within width i (4 + depth) (omega arith) h in
+    let d : 4 + depth - 4 ≡ depth = omega arith in
+    let f = ap (file-length width) d in
+    simp (length-take, length-drop) (omega arith)

@@ -44,20 +44,27 @@ field-refusal k file (suc (suc zero)) = None
 field-refusal k file (suc (suc (suc zero))) = cond (isSome (k .read (field-bytes (k .width) file 3))) None (Some (BadAmount 43))
 field-refusal k file (suc (suc (suc (suc j)))) = step-refusal k file (step-index j)
 
--- the first of as many fields, from field i on
-abbrev pub fields-refusal : Kind → List ℕ → ℕ → ℕ → Option Refusal
-fields-refusal k file zero i = None
-fields-refusal k file (suc more) i = or-else (field-refusal k file i) (fields-refusal k file more (suc i))
+-- the first refusal of as many fields, from field i on
+abbrev pub first-from : (ℕ → Option Refusal) → ℕ → ℕ → Option Refusal
+first-from refusal zero i = None
+first-from refusal (suc more) i = or-else (refusal i) (first-from refusal more (suc i))
 
 -- every amount in file order
 abbrev pub amounts-refusal : Kind → ℕ → List ℕ → Option Refusal
-amounts-refusal k depth file = fields-refusal k file (4 + depth) 0
+amounts-refusal k depth file = first-from (field-refusal k file) (4 + depth) 0
 
--- the joint amounts of as many heights, from height j up
-abbrev pub joins-refusal : Kind → Hash → ℕ → File → ℕ → ℕ → Option Refusal
-joins-refusal k h closing f zero j = None
-joins-refusal k h closing f (suc more) j =
-    cond (k .writable (path-node k h closing f (suc j) .amount)) (joins-refusal k h closing f more (suc j)) (Some (JoinUnwritable (offset-at (k .width) (step-index j))))
+-- a step that the path's node cannot be joined with
+abbrev pub join-refusal-at : Kind → Hash → ℕ → File → ℕ → Option Refusal
+join-refusal-at k h closing f zero = None
+join-refusal-at k h closing f (suc zero) = None
+join-refusal-at k h closing f (suc (suc zero)) = None
+join-refusal-at k h closing f (suc (suc (suc zero))) = None
+join-refusal-at k h closing f (suc (suc (suc (suc j)))) =
+    cond (k .writable (path-node k h closing f (suc j) .amount)) None (Some (JoinUnwritable (offset-at (k .width) (step-index j))))
+
+-- every joint amount from the leaf up
+abbrev pub joins-refusal : Kind → Hash → ℕ → ℕ → File → Option Refusal
+joins-refusal k h closing depth f = first-from (join-refusal-at k h closing f) (4 + depth) 0
 
 -- the top of the path, and whether it is the sheet's digest and total
 abbrev pub top-refusal : Kind → Hash → Sheet → File → Option Refusal
@@ -67,7 +74,7 @@ abbrev pub file-refusal : Kind → Hash → Sheet → List ℕ → Option Refusa
 file-refusal k h s file =
     or-else (shape-refusal k h s file)
     (or-else (amounts-refusal k (s .depth) file)
-    (or-else (joins-refusal k h (s .closing) (file-of k (s .depth) file) (s .depth) 0)
+    (or-else (joins-refusal k h (s .closing) (s .depth) (file-of k (s .depth) file))
     (top-refusal k h s (file-of k (s .depth) file))))
 
 -- the place that a passing check answers

@@ -1,8 +1,8 @@
 //! The customer's check of a file under a sheet.
 ghost use mathlib.Core.Path.{_≡_};
-ghost use mathlib.Core.Bool.{not};
+ghost use mathlib.Core.Bool.{not, cond};
 ghost use mathlib.Core.List.{List, [], _∷_};
-ghost use Prim.Native.Nat.{ℕ, _+_, _-_, _*_, _^_, _<_, _≤_};
+ghost use Prim.Native.Nat.{ℕ, _+_, _-_, _*_, _/_, _%_, _^_, _<_, _≤_};
 ghost use lib.Dec.{leb, eqb};
 ghost use lib.ListN.{length, take, drop};
 ghost use Rattle.std.specs.Options.{isSome};
@@ -12,7 +12,14 @@ ghost use Rattle.sheet.specs.Meant.{sheet-of};
 ghost use Rattle.file.specs.Layout.{file-length};
 ghost use Rattle.file.specs.Fields.{Is-field};
 ghost use Rattle.check.specs.Paths.{file-of, path-node};
-ghost use Rattle.check.specs.Checks.{shape-refusal, field-refusal, amounts-refusal, joins-refusal, top-refusal, file-refusal};
+ghost use Rattle.check.specs.Checks.{shape-refusal, field-refusal, amounts-refusal, join-refusal-at, joins-refusal, top-refusal, file-refusal};
+ghost use Rattle.check.specs.Walks.{Walks};
+ghost use Rattle.amount.specs.Kinds.{join-refusal};
+ghost use Rattle.node.specs.Texts.{inner-node};
+ghost use Rattle.node.specs.Meant.{node-of};
+ghost use Rattle.file.specs.Fields.{field-bytes, length-at};
+
+mod types;
 
 use amount::Amount;
 use bytes::read4;
@@ -20,13 +27,20 @@ use digest::Digest;
 use file::Fields;
 use file::types::Field;
 use file::types::Found;
+use node::inner;
+use node::leaf;
+use node::read_node;
+use node::types::Line;
+use node::types::Node;
+use numbering::Closing;
 use refusal::cases::Refusal;
+use types::Walker;
 
 // Whether the bytes behind a digest are an amount's.
 fn step_amount<A: Amount>(part: &[u8]) -> bool
     ensures { λ r. ⌜ r ≡ isSome (kind .read (drop 32 (now (part .entry)))) ⌝ }
 {
-    match node::read_node::<A>(part) {
+    match read_node::<A>(part) {
         Ok(_) => true,
         Err(_) => false,
     }
@@ -68,4 +82,80 @@ fn check_amounts<A: Amount>(file: &[u8], depth: u32) -> Result<(), Refusal>
         judge::<A>(found)?;
     }
     Ok(())
+}
+
+// Whether the path's node at a height is the left one: bit j of the leaf number is 0.
+fn on_left(leaf: u32, j: u32) -> bool
+    requires { ⌜ j < 32 ⌝ }
+    ensures { λ r. ⌜ r ≡ eqb (leaf / 2 ^ j % 2) 0 ⌝ }
+{
+    (leaf >> j) & 1 == 0
+}
+
+// The node over the path's node and the step beside it.
+fn over<A: Amount, D: Digest>(digest: &D, left: bool, own: &Node<A>, step: &Node<A>) -> Result<Node<A>, Refusal>
+    ensures { λ r. ⌜ Answers r
+        (join-refusal kind (meaning (cond left (now (own .entry)) (now (step .entry)) .amount)) (meaning (cond left (now (step .entry)) (now (own .entry)) .amount)))
+        (λ n. node-of meaning n ≡ inner-node kind (D·Digest .hash (now (digest .entry))) (node-of meaning (cond left (now (own .entry)) (now (step .entry)))) (node-of meaning (cond left (now (step .entry)) (now (own .entry))))) ⌝ }
+{
+    if left { inner(digest, own, step) } else { inner(digest, step, own) }
+}
+
+// Sixteen bytes by value.
+fn sixteen(part: &[u8]) -> [u8; 16]
+    ensures { λ r. ⌜ (length (now (part .entry)) ≡ 16 → r ≡ now (part .entry)) ⌝ }
+{
+    let mut out = [0u8; 16];
+    if part.len() == 16 {
+        out.copy_from_slice(part);
+    }
+    out
+}
+
+// One field further up.
+fn walk<A: Amount, D: Digest>(digest: &D, closing: Closing, leaf_number: u32, walker: Walker<A>, found: Found) -> Result<Walker<A>, Refusal>
+    requires { ⌜ walker .height < 32 ⌝ }
+    ensures { λ r. ⌜ ((s : List ℕ) (depth i : ℕ) → Is-field (kind .width) s i (found .entry) → length (field-bytes (kind .width) s i) ≡ length-at (kind .width) i → i < 4 + depth
+        → field-refusal kind s i ≡ None → «leaf_number» ≡ file-of kind depth s .leaf → Walks meaning kind (D·Digest .hash (now (digest .entry))) (closing .0) depth s i walker
+        → Answers r (join-refusal-at kind (D·Digest .hash (now (digest .entry))) (closing .0) (file-of kind depth s) i)
+            (λ w. Walks meaning kind (D·Digest .hash (now (digest .entry))) (closing .0) depth s (i + 1) w)) ⌝ }
+{
+    let Walker { customer, salt, own, height } = walker;
+    match found.field {
+        Field::Head(_) => Ok(Walker { customer, salt, own, height }),
+        Field::Customer(part) => Ok(Walker { customer: sixteen(part), salt, own, height }),
+        Field::Salt(part) => Ok(Walker { customer, salt: sixteen(part), own, height }),
+        Field::Balance(part) => match A::read(part) {
+            Ok(balance) => {
+                let own = leaf(digest, closing, &Line { customer, salt, balance });
+                Ok(Walker { customer, salt, own, height })
+            }
+            Err(_) => Err(Refusal::BadAmount(found.offset)),
+        },
+        Field::Step(part) => match read_node(part) {
+            Ok(step) => match over(digest, on_left(leaf_number, height), &own, &step) {
+                Ok(own) => Ok(Walker { customer, salt, own, height: height + 1 }),
+                Err(_) => Err(Refusal::JoinUnwritable(found.offset)),
+            },
+            Err(_) => Err(Refusal::BadAmount(found.offset)),
+        },
+    }
+}
+
+// The top of the path, from the leaf up.
+fn climb<A: Amount, D: Digest>(digest: &D, closing: Closing, leaf_number: u32, depth: u32, file: &[u8]) -> Result<Node<A>, Refusal>
+    requires deep { ⌜ depth ≤ 20 ⌝ }
+    requires long { ⌜ length (now file) ≡ file-length (kind .width) depth ⌝ }
+    requires amounts { ⌜ amounts-refusal kind depth (now file) ≡ None ⌝ }
+    requires number { ⌜ «leaf_number» ≡ file-of kind depth (now file) .leaf ⌝ }
+    ensures { λ r. ⌜ Answers r (joins-refusal kind (D·Digest .hash (now (digest .entry))) (closing .0) depth (file-of kind depth (now (file .entry))))
+        (λ n. node-of meaning n ≡ path-node kind (D·Digest .hash (now (digest .entry))) (closing .0) (file-of kind depth (now (file .entry))) depth) ⌝ }
+{
+    let mut fields = Fields::new::<A>(file, depth);
+    let mut walker = Walker { customer: [0; 16], salt: [0; 16], own: Node { digest: [0; 32], amount: A::zero() }, height: 0 };
+    while let Some(found) = fields.next() {
+        let next = walk(digest, closing, leaf_number, walker, found)?;
+        walker = next;
+    }
+    Ok(walker.own)
 }
