@@ -5,6 +5,8 @@ use mathlib.Core.List.{List, [], _∷_}
 use Prim.Native.Nat.{ℕ, zero, suc, _<_}
 use lib.Dec.{T, eqb, eqb-refl, eqb→eq}
 use lib.ListN.{length, getD}
+use native.Mathlib.Omega.{arith}
+use Rattle.std.specs.Orderings.{Decides}
 use Rattle.bytes.specs.Tests.{same, every}
 
 pub both-in : (a b : Bool) → T a → T b → T (a && b)
@@ -42,3 +44,8 @@ T-true b e = subst T (sym e) tt
 pub false-T : (b : Bool) → (T b → ⊥) → b ≡ false
 false-T true h = absurd (h tt)
 false-T false h = refl
+
+-- a test that decides whether two lists are equal is `same`
+pub same-decided : (s t : List ℕ) (r : Bool) → Decides r (s ≡ t) → r ≡ same s t
+same-decided s t true h = sym (true-T (same s t) (subst (λ z. T (same s z)) (h .0 refl) (same-refl s)))
+same-decided s t false h = sym (false-T (same s t) (λ q. let e = h .1 (same-out s t q) in let z : _≡_ {A = ℕ} 0 1 = cc in omega arith))

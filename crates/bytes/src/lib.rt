@@ -8,6 +8,7 @@ ghost use mathlib.Core.List.{List};
 ghost use lib.ListN.{length, take};
 ghost use Rattle.std.specs.Options.{Cases as BySome};
 ghost use Rattle.bytes.specs.BigEndian.{be, value};
+ghost use Rattle.bytes.specs.Tests.{same};
 
 // The four bytes of a number, the highest first.
 pub fn be4(x: u32) -> [u8; 4]
@@ -31,4 +32,11 @@ pub fn read4(s: &[u8]) -> Option<u32>
         return None;
     };
     Some(u32::from_be_bytes([*a, *b, *c, *d]))
+}
+
+// Whether two rows of bytes are the same.
+pub fn same_bytes(a: &[u8], b: &[u8]) -> bool
+    ensures { λ r. ⌜ r ≡ same (now (a .entry)) (now (b .entry)) ⌝ }
+{
+    a == b
 }

@@ -2,19 +2,19 @@
 use mathlib.Core.Bool.{Bool, true, false, cond, not}
 use mathlib.Core.List.{List, [], _∷_}
 use Prim.Native.Nat.{ℕ, zero, suc, _+_, _^_}
-use lib.Dec.{leb, eqb}
+use lib.Dec.{leb, ltb, eqb}
 use lib.ListN.{length, take, drop}
 use Rattle.std.specs.Options.{isSome}
 use Rattle.std.specs.declared.option.Option.{Option}
 use Rattle.std.specs.declared.option.Option.the-variants.{Some, None}
 use Rattle.bytes.specs.Tests.{same}
 use Rattle.refusal.specs.declared.cases.Refusal.{Refusal}
-use Rattle.refusal.specs.declared.cases.Refusal.the-variants.{FileLength, OtherSheet, LeafOutside, BadAmount, JoinUnwritable, RootDiffers}
+use Rattle.refusal.specs.declared.cases.Refusal.the-variants.{BadLimits, FileLength, OtherSheet, LeafOutside, BadAmount, JoinUnwritable, RootDiffers}
 use Rattle.refusal.specs.Tables.{_⇒_, first}
 use Rattle.amount.specs.Kinds.{Kind}
 use Rattle.digest.specs.Hashes.{Hash}
 use Rattle.node.specs.Texts.{Node, node-bytes}
-use Rattle.sheet.specs.Layout.{Sheet, head}
+use Rattle.sheet.specs.Layout.{Sheet, head, sheet-refusal, read-sheet}
 use Rattle.file.specs.Layout.{File, file-length}
 use Rattle.file.specs.Fields.{offset-at, step-index, field-bytes}
 use Rattle.check.specs.Paths.{file-of, path-node}
@@ -80,3 +80,15 @@ file-refusal k h s file =
 -- the place that a passing check answers
 abbrev pub leaf-place : Kind → Sheet → List ℕ → ℕ
 leaf-place k s file = 2 ^ s .depth + file-of k (s .depth) file .leaf
+
+-- a sheet in hand: its depth, then the file
+abbrev pub under-refusal : Kind → Hash → Sheet → List ℕ → Option Refusal
+under-refusal k h s file = or-else (first ((ltb 20 (s .depth) ⇒ BadLimits) ∷ [])) (file-refusal k h s file)
+
+-- a sheet and a file as bytes
+abbrev pub under : Kind → Hash → Option Sheet → List ℕ → Option Refusal
+under k h None file = None
+under k h (Some s) file = under-refusal k h s file
+
+abbrev pub check-refusal : Kind → Hash → List ℕ → List ℕ → Option Refusal
+check-refusal k h sheet file = or-else (sheet-refusal k h sheet) (under k h (read-sheet k h sheet) file)

@@ -1,4 +1,7 @@
 //! The customer's check of a file under a sheet.
+//!
+//! `specs/Paths` says what a file says along its path, `specs/Checks` when it is refused; the audit is stated with these
+//! too. The file is gone through twice by its reader: for the amounts, then upwards.
 ghost use mathlib.Core.Path.{_≡_};
 ghost use mathlib.Core.Bool.{not, cond};
 ghost use mathlib.Core.List.{List, [], _∷_};
@@ -12,10 +15,12 @@ ghost use Rattle.sheet.specs.Meant.{sheet-of};
 ghost use Rattle.file.specs.Layout.{file-length};
 ghost use Rattle.file.specs.Fields.{Is-field};
 ghost use Rattle.check.specs.Paths.{file-of, path-node};
-ghost use Rattle.check.specs.Checks.{shape-refusal, field-refusal, amounts-refusal, join-refusal-at, joins-refusal, top-refusal, file-refusal};
+ghost use Rattle.check.specs.Checks.{shape-refusal, field-refusal, amounts-refusal, join-refusal-at, joins-refusal, top-refusal, file-refusal, under-refusal, check-refusal, leaf-place};
+ghost use Rattle.sheet.specs.Layout.{Sheet as SheetSaid, read-sheet};
 ghost use Rattle.check.specs.Walks.{Walks};
 ghost use Rattle.amount.specs.Kinds.{join-refusal};
-ghost use Rattle.node.specs.Texts.{inner-node};
+ghost use Rattle.bytes.specs.Tests.{same};
+ghost use Rattle.node.specs.Texts.{inner-node, node-bytes};
 ghost use Rattle.node.specs.Meant.{node-of};
 ghost use Rattle.file.specs.Fields.{field-bytes, length-at};
 
@@ -23,6 +28,7 @@ mod types;
 
 use amount::Amount;
 use bytes::read4;
+use bytes::same_bytes;
 use digest::Digest;
 use file::Fields;
 use file::types::Field;
@@ -32,8 +38,13 @@ use node::leaf;
 use node::read_node;
 use node::types::Line;
 use node::types::Node;
+use node::write_node;
 use numbering::Closing;
+use numbering::Place;
 use refusal::cases::Refusal;
+use sheet::head;
+use sheet::types::Sheet;
+use tree::leaf_count;
 use types::Walker;
 
 // Whether the bytes behind a digest are an amount's.
@@ -158,4 +169,67 @@ fn climb<A: Amount, D: Digest>(digest: &D, closing: Closing, leaf_number: u32, d
         walker = next;
     }
     Ok(walker.own)
+}
+
+// Whether two nodes have the same bytes.
+fn same_node<A: Amount>(a: &Node<A>, b: &Node<A>) -> bool
+    ensures { λ r. ⌜ r ≡ same (node-bytes kind (node-of meaning (now (a .entry)))) (node-bytes kind (node-of meaning (now (b .entry)))) ⌝ }
+{
+    let mut one = [0u8; 112];
+    let mut two = [0u8; 112];
+    match (write_node(a, &mut one), write_node(b, &mut two)) {
+        (Ok(m), Ok(n)) => same_bytes(&one[0..m], &two[0..n]),
+        _ => unreachable(),
+    }
+}
+
+// Length, first seven bytes and leaf number of a file; answers the leaf number.
+fn check_shape<A: Amount, D: Digest>(digest: &D, sheet: &Sheet<A>, file: &[u8]) -> Result<u32, Refusal>
+    requires { ⌜ now sheet .depth ≤ 20 ⌝ }
+    ensures { λ r. ⌜ Answers r (shape-refusal kind (D·Digest .hash (now (digest .entry))) (sheet-of meaning (now (sheet .entry))) (now (file .entry)))
+        (λ n. (n ≡ file-of kind (now (sheet .entry) .depth) (now (file .entry)) .leaf) × (length (now (file .entry)) ≡ file-length (kind .width) (now (sheet .entry) .depth)) × (n < 2 ^ now (sheet .entry) .depth)) ⌝ }
+{
+    let width = A::width();
+    if file.len() != 43 + width + sheet.depth as usize * (32 + width) {
+        return Err(Refusal::FileLength);
+    }
+    let head = head::<A, D>(digest, sheet.closing, sheet.depth);
+    if !same_bytes(&file[0..7], &head) {
+        return Err(Refusal::OtherSheet);
+    }
+    let Some(leaf_number) = read4(&file[7..file.len()]) else {
+        return Err(Refusal::FileLength);
+    };
+    if leaf_number >= leaf_count(sheet.depth as u32) {
+        return Err(Refusal::LeafOutside);
+    }
+    Ok(leaf_number)
+}
+
+// The check of a file under a sheet in hand. It passes exactly if the top of the path is the sheet's digest and total, and
+// answers the leaf's place.
+pub fn check_file<A: Amount, D: Digest>(digest: &D, sheet: &Sheet<A>, file: &[u8]) -> Result<Place, Refusal>
+    ensures { λ r. ⌜ Answers r (under-refusal kind (D·Digest .hash (now (digest .entry))) (sheet-of meaning (now (sheet .entry))) (now (file .entry)))
+        (λ p. p .0 ≡ leaf-place kind (sheet-of meaning (now (sheet .entry))) (now (file .entry))) ⌝ }
+{
+    if sheet.depth > 20 {
+        return Err(Refusal::BadLimits);
+    }
+    let depth = sheet.depth as u32;
+    let leaf_number = check_shape(digest, sheet, file)?;
+    check_amounts::<A>(file, depth)?;
+    let top = climb(digest, sheet.closing, leaf_number, depth, file)?;
+    if !same_node(&top, &sheet.root) {
+        return Err(Refusal::RootDiffers);
+    }
+    Ok(Place(leaf_count(depth) + leaf_number))
+}
+
+// The customer's check: a file under a sheet, both as bytes of any length and content.
+pub fn check<A: Amount, D: Digest>(digest: &D, sheet: &[u8], file: &[u8]) -> Result<Place, Refusal>
+    ensures { λ r. ⌜ Answers r (check-refusal kind (D·Digest .hash (now (digest .entry))) (now (sheet .entry)) (now (file .entry)))
+        (λ p. ((s : SheetSaid) → read-sheet kind (D·Digest .hash (now (digest .entry))) (now (sheet .entry)) ≡ Some s → p .0 ≡ leaf-place kind s (now (file .entry)))) ⌝ }
+{
+    let read = sheet::read::<A, D>(digest, sheet)?;
+    check_file(digest, &read, file)
 }

@@ -8,6 +8,7 @@ ghost use Prim.Native.Nat.{_<_};
 ghost use lib.ListN.{length};
 
 mod calls;
+mod papers;
 mod stores;
 mod words;
 
@@ -145,6 +146,26 @@ impl Session {
         }
     }
 
+    fn check(&self, sheet: &[u8], file: &[u8]) -> Result<Answer, AllocError> {
+        let Some(chosen) = self.chosen else {
+            return Ok(Answer::NotNow);
+        };
+        match chosen.amount {
+            AmountKind::Single => papers::place::<Single>(self.heap, chosen.digest, sheet, file),
+            AmountKind::Purse => papers::place::<Purse>(self.heap, chosen.digest, sheet, file),
+        }
+    }
+
+    fn fields(&self, depth: u32, file: &[u8]) -> Result<Answer, AllocError> {
+        let Some(chosen) = self.chosen else {
+            return Ok(Answer::NotNow);
+        };
+        match chosen.amount {
+            AmountKind::Single => papers::fields::<Single>(self.heap, depth, file),
+            AmountKind::Purse => papers::fields::<Purse>(self.heap, depth, file),
+        }
+    }
+
     // Everything made before is gone.
     fn choose(&mut self, chosen: Chosen) -> Result<Answer, AllocError> {
         self.chosen = Some(chosen);
@@ -181,6 +202,8 @@ impl Session {
             Call::Join(left, right) => self.join(&left, &right),
             Call::Measure(shape) => stores::done(self.heap, stores::measured(shape), "fits"),
             Call::Store(shape) => self.make_store(shape),
+            Call::Check(sheet, file) => self.check(&sheet, &file),
+            Call::Fields(depth, file) => self.fields(depth, &file),
             other => self.to_store(other),
         }
     }

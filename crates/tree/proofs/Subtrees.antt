@@ -129,8 +129,10 @@ either true b e = (λ _. let z : _≡_ {A = ℕ} 0 1 = cc in omega arith, λ _. 
 either false true e = (λ h. h, λ _. let z : _≡_ {A = ℕ} 0 1 = cc in omega arith)
 either false false e = (λ h. h, λ h. h)
 
+pub shallow : (depth closing : ℕ) → bad-limits closing depth ≡ false → depth ≤ 20
+shallow depth closing b = nltb→le 20 depth (not-T (ltb 20 depth) (either (ltb 20 depth) (ltb closing 1 || ltb 9999 closing) b .0))
+
 pub has-node : (depth height n closing : ℕ) → bad-limits closing depth ≡ false → ltb depth height || leb (2 ^ (depth - height)) n ≡ false → (n + 1) * 2 ^ height ≤ 2 ^ 20
 has-node depth height n closing b e =
-    let l = either (ltb 20 depth) (ltb closing 1 || ltb 9999 closing) b in
     let p = either (ltb depth height) (leb (2 ^ (depth - height)) n) e in
-    inside n depth height (nltb→le 20 depth (not-T (ltb 20 depth) (l .0))) (nltb→le depth height (not-T (ltb depth height) (p .0))) (nleb→lt (2 ^ (depth - height)) n (not-T (leb (2 ^ (depth - height)) n) (p .1)))
+    inside n depth height (shallow depth closing b) (nltb→le depth height (not-T (ltb depth height) (p .0))) (nleb→lt (2 ^ (depth - height)) n (not-T (leb (2 ^ (depth - height)) n) (p .1)))

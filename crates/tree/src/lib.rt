@@ -5,7 +5,7 @@
 ghost use mathlib.Core.Path.{_≡_};
 ghost use mathlib.Core.Bool.{not, _||_};
 ghost use mathlib.Core.List.{[], _∷_};
-ghost use Prim.Native.Nat.{ℕ, _+_, _-_, _*_, _^_, _≤_};
+ghost use Prim.Native.Nat.{ℕ, _+_, _-_, _*_, _^_, _<_, _≤_};
 ghost use lib.Dec.{leb, ltb};
 ghost use Rattle.refusal.specs.declared.cases.Refusal.the-variants.{JoinUnwritable};
 ghost use Rattle.refusal.specs.Tables.{_⇒_, first, Answers};
@@ -60,12 +60,12 @@ fn subtree<A: Amount, D: Digest>(
     inner(digest, &left, &right)
 }
 
-// 2 to the power of a depth.
-fn two_to(depth: u32) -> u32
-    requires { ⌜ depth ≤ 20 ⌝ }
-    ensures { λ r. ⌜ r ≡ 2 ^ depth ⌝ }
+// How many leaves a tree of a depth has; no tree is deeper than 20.
+pub fn leaf_count(depth: u32) -> u32
+    ensures leaves { λ r. ⌜ (depth ≤ 20 → r ≡ 2 ^ depth) ⌝ }
+    ensures none { λ r. ⌜ (20 < depth → r ≡ 0) ⌝ }
 {
-    1u32 << depth
+    if depth <= 20 { 1u32 << depth } else { 0 }
 }
 
 // Whether a closing is not 1 to 9,999, or a depth over 20.
@@ -80,7 +80,7 @@ fn no_node(depth: u32, height: u32, n: u32) -> bool
     requires { ⌜ depth ≤ 20 ⌝ }
     ensures { λ r. ⌜ r ≡ (ltb depth height || leb (2 ^ (depth - height)) n) ⌝ }
 {
-    height > depth || n >= two_to(depth - height)
+    height > depth || n >= leaf_count(depth - height)
 }
 
 // Node n of a height in the tree of a ledger, from its lines alone; the root is node 0 of the height that is the depth.
@@ -99,7 +99,7 @@ pub fn tree_node<A: Amount, D: Digest>(
     if bad_limits(closing, depth) {
         return Err(Refusal::BadLimits);
     }
-    if lines.len() > two_to(depth) as usize {
+    if lines.len() > leaf_count(depth) as usize {
         return Err(Refusal::LeavesTaken);
     }
     if no_node(depth, height, n) {

@@ -6,19 +6,19 @@ use lib.Dec.{ltb, leb}
 use lib.ListN.{length}
 use Rattle.tree.specs.Trees.{bad-limits}
 use Rattle.node.specs.Meant.{line-of, lines-of}
-use Rattle.tree.proofs.Subtrees.{many, few, has-node}
+use Rattle.tree.proofs.Subtrees.{many, few, has-node, shallow}
 use Rattle.tree.proofs.tree_node.Needs as need
 
-pub returns-then-lines-two-to : need.returns-then-lines-two-to
-returns-then-lines-two-to g c =
+pub returns-then-lines-leaf-count : need.returns-then-lines-leaf-count
+returns-then-lines-leaf-count g c =
     let b : bad-limits (c .args .closing .0) (c .args .depth) ≡ false = sym (c .if-bad-limits .ensures tt) in
-    let m = many (line-of (g .A·Amount .meaning)) (c .args .lines .now) (c .two-to .result) (c .args .depth) (c .two-to .ensures) (c .if-lines-two-to .taken) in
+    let m = many (line-of (g .A·Amount .meaning)) (c .args .lines .now) (c .leaf-count .result) (c .args .depth) (c .leaf-count .ensures .leaves (shallow (c .args .depth) (c .args .closing .0) (sym (c .if-bad-limits .ensures tt)))) (c .if-lines-leaf-count .taken) in
     rw (b, m)
 
 pub returns-then-no-node : need.returns-then-no-node
 returns-then-no-node g c =
     let b : bad-limits (c .args .closing .0) (c .args .depth) ≡ false = sym (c .if-bad-limits .ensures tt) in
-    let m = few (line-of (g .A·Amount .meaning)) (c .args .lines .now) (c .two-to .result) (c .args .depth) (c .two-to .ensures) (c .if-lines-two-to .left) in
+    let m = few (line-of (g .A·Amount .meaning)) (c .args .lines .now) (c .leaf-count .result) (c .args .depth) (c .leaf-count .ensures .leaves (shallow (c .args .depth) (c .args .closing .0) (sym (c .if-bad-limits .ensures tt)))) (c .if-lines-leaf-count .left) in
     let o : ltb (c .args .depth) (c .args .height) || leb (2 ^ (c .args .depth - c .args .height)) (c .args .n) ≡ true = sym (c .if-no-node .ensures tt) in
     rw (b, m, o)
 
@@ -28,6 +28,6 @@ subtree-requires g c κs = has-node (c .args .depth) (c .args .height) (c .args 
 pub returns : need.returns
 returns g c =
     let b : bad-limits (c .args .closing .0) (c .args .depth) ≡ false = sym (c .if-bad-limits .ensures tt) in
-    let m = few (line-of (g .A·Amount .meaning)) (c .args .lines .now) (c .two-to .result) (c .args .depth) (c .two-to .ensures) (c .if-lines-two-to .left) in
+    let m = few (line-of (g .A·Amount .meaning)) (c .args .lines .now) (c .leaf-count .result) (c .args .depth) (c .leaf-count .ensures .leaves (shallow (c .args .depth) (c .args .closing .0) (sym (c .if-bad-limits .ensures tt)))) (c .if-lines-leaf-count .left) in
     let o : ltb (c .args .depth) (c .args .height) || leb (2 ^ (c .args .depth - c .args .height)) (c .args .n) ≡ false = sym (c .if-no-node .ensures tt) in
     rw (b, m, o) (c .subtree .ensures)
