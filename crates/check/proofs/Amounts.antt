@@ -21,7 +21,7 @@ use Rattle.file.specs.Fields.{offset-at, length-at, field-bytes, field-count, I
 use Rattle.bytes.proofs.Passes.{true-T, both-in, eqb-in}
 use Rattle.check.specs.Checks.{or-else, step-refusal, field-refusal, first-from}
 
-is-step : (k : Kind) (s : List ℕ) (i : ℕ) → 4 ≤ i → field-refusal k s i ≡ step-refusal k s i
+pub is-step : (k : Kind) (s : List ℕ) (i : ℕ) → 4 ≤ i → field-refusal k s i ≡ step-refusal k s i
 is-step k s zero h = absurd (omega arith)
 is-step k s (suc zero) h = absurd (omega arith)
 is-step k s (suc (suc zero)) h = absurd (omega arith)
@@ -77,7 +77,7 @@ pub same-field : (w v : ℕ) (s t : List ℕ) (i : ℕ) (f : Found) → w ≡ v 
 same-field w v s t i f p q h = subst (λ x. Is-field v x i f) q (subst (λ x. Is-field x s i f) p h)
 
 -- where no field is refused, each one is not
-or-none : (a b : Option Refusal) → or-else a b ≡ None → (a ≡ None) × (b ≡ None)
+pub or-none : (a b : Option Refusal) → or-else a b ≡ None → (a ≡ None) × (b ≡ None)
 or-none None b e = (refl, e)
 or-none (Some r) b e = absurd (let z : _≡_ {A = ℕ} 0 1 = cc in omega arith)
 

@@ -21,12 +21,12 @@ use Rattle.check.specs.Paths.{step-of, steps-of, file-of, step-at, is-left, le
 use Rattle.check.specs.Checks.{join-refusal-at}
 
 -- step j of as many, from step a on
-steps-at : (k : Kind) (s : List ℕ) (more a j : ℕ) (d : Node) → j < more → getD (steps-of k s more a) j d ≡ step-of k s (a + j)
+pub steps-at : (k : Kind) (s : List ℕ) (more a j : ℕ) (d : Node) → j < more → getD (steps-of k s more a) j d ≡ step-of k s (a + j)
 steps-at k s zero a j d h = absurd (not-suc-le-zero h)
 steps-at k s (suc more) a zero d h = ap (step-of k s) (sym (add-zero a))
 steps-at k s (suc more) a (suc j) d h = steps-at k s more (suc a) j d (le-of-suc-le-suc h) ∙ ap (step-of k s) (let e : suc a + j ≡ a + suc j = omega arith in e)
 
-step-index-is : (i : ℕ) → 4 ≤ i → i ≡ step-index (i - 4)
+pub step-index-is : (i : ℕ) → 4 ≤ i → i ≡ step-index (i - 4)
 step-index-is i h = omega arith
 
 -- a node that was read is the step there
@@ -43,7 +43,7 @@ step-is k s p depth i y h l e r =
     let t : step-of k s (i - 4) ≡ y = ap (λ x. record { digest = take 32 x; amount = valueOr (k .read (drop 32 x)) [] }) (sym q) ∙ read-is k p y r in
     sym (steps-at k s depth 0 (i - 4) (record { digest = []; amount = [] }) (omega arith) ∙ ap (step-of k s) (zero-add (i - 4)) ∙ t)
 
-join-at : (k : Kind) (h : Hash) (closing : ℕ) (f : File) (i : ℕ) → 4 ≤ i → join-refusal-at k h closing f i ≡ cond (k .writable (path-node k h closing f (suc (i - 4)) .amount)) None (Some (JoinUnwritable (offset-at (k .width) i)))
+pub join-at : (k : Kind) (h : Hash) (closing : ℕ) (f : File) (i : ℕ) → 4 ≤ i → join-refusal-at k h closing f i ≡ cond (k .writable (path-node k h closing f (suc (i - 4)) .amount)) None (Some (JoinUnwritable (offset-at (k .width) i)))
 join-at k h closing f zero l = absurd (omega arith)
 join-at k h closing f (suc zero) l = absurd (omega arith)
 join-at k h closing f (suc (suc zero)) l = absurd (omega arith)

@@ -1,3 +1,4 @@
 pub mod Amounts
 pub mod Climbs
 pub mod Shapes
+pub mod Under

@@ -6,7 +6,7 @@ ghost use mathlib.Core.Path.{_≡_};
 ghost use mathlib.Core.Bool.{not, cond};
 ghost use mathlib.Core.List.{List, [], _∷_};
 ghost use Prim.Native.Nat.{ℕ, _+_, _-_, _*_, _/_, _%_, _^_, _<_, _≤_};
-ghost use lib.Dec.{leb, eqb};
+ghost use lib.Dec.{T, leb, eqb};
 ghost use lib.ListN.{length, take, drop};
 ghost use Rattle.std.specs.Options.{isSome};
 ghost use Rattle.std.specs.declared.option.Option.the-variants.{Some, None};
@@ -225,10 +225,12 @@ pub fn check_file<A: Amount, D: Digest>(digest: &D, sheet: &Sheet<A>, file: &[u8
     Ok(Place(leaf_count(depth) + leaf_number))
 }
 
-// The customer's check: a file under a sheet, both as bytes of any length and content.
+// The customer's check: a file under a sheet, both as bytes of any length and content. Where it passes, the balance in the
+// file is under the total on the sheet.
 pub fn check<A: Amount, D: Digest>(digest: &D, sheet: &[u8], file: &[u8]) -> Result<Place, Refusal>
     ensures { λ r. ⌜ Answers r (check-refusal kind (D·Digest .hash (now (digest .entry))) (now (sheet .entry)) (now (file .entry)))
-        (λ p. ((s : SheetSaid) → read-sheet kind (D·Digest .hash (now (digest .entry))) (now (sheet .entry)) ≡ Some s → p .0 ≡ leaf-place kind s (now (file .entry)))) ⌝ }
+        (λ p. ((s : SheetSaid) → read-sheet kind (D·Digest .hash (now (digest .entry))) (now (sheet .entry)) ≡ Some s
+            → (p .0 ≡ leaf-place kind s (now (file .entry))) × T (kind .under (file-of kind (s .depth) (now (file .entry)) .line .balance) (s .root .amount)))) ⌝ }
 {
     let read = sheet::read::<A, D>(digest, sheet)?;
     check_file(digest, &read, file)
