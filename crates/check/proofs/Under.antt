@@ -93,7 +93,7 @@ module _ (k : Kind) (laws : Laws k) (h : Hash) (hashes : HashLaws h) (closing de
       let top = path-node k h closing f depth in
       let e = same-out (node-bytes k top) (node-bytes k root) t in
       let b : k .bytes (top .amount) ≡ k .bytes (root .amount) =
-          sym (drop-at (top .digest) (k .bytes (top .amount)) 32 (digest-long depth)) ∙ ap (drop 32) e ∙ drop-at (root .digest) (k .bytes (root .amount)) 32 l in
+      sym (drop-at (top .digest) (k .bytes (top .amount)) 32 (digest-long depth)) ∙ ap (drop 32) e ∙ drop-at (root .digest) (k .bytes (root .amount)) 32 l in
       let a = laws .bytes-injective (top .amount) (root .amount) (top-writable depth refl j) w b in
       subst (λ m. T (k .under (f .line .balance) m)) a (under-path depth (omega arith))
 
@@ -144,13 +144,14 @@ some-sheet s t e = cc
 pub checked : {X : Type 0} (place : X → ℕ) (k : Kind) → Laws k → (h : Hash) → HashLaws h → (sheet file : List ℕ) (s : Sheet) (r : Result X Refusal)
     → sheet-refusal k h sheet ≡ None → read-sheet k h sheet ≡ Some s → Answers r (under-refusal k h s file) (λ p. place p ≡ leaf-place k s file)
     → Answers r (check-refusal k h sheet file)
-        (λ p. (t : Sheet) → read-sheet k h sheet ≡ Some t → (place p ≡ leaf-place k t file) × T (k .under (file-of k (t .depth) file .line .balance) (t .root .amount)))
-checked place k laws h hashes sheet file s (Ok p) e r a =
-    (ap (λ x. or-else x (under k h (read-sheet k h sheet) file)) e ∙ ap (λ x. under k h x file) r ∙ a .0,
-     λ t q.
-       let same-sheet = some-sheet s t (sym r ∙ q) in
-       let root = sheet-root k laws h sheet s e r in
-       subst (λ x. (place p ≡ leaf-place k x file) × T (k .under (file-of k (x .depth) file .line .balance) (x .root .amount))) same-sheet
-       (a .1, passes-under k laws h hashes s file (root .0) (root .1) (a .0)))
+    (λ p. (t : Sheet) → read-sheet k h sheet ≡ Some t → (place p ≡ leaf-place k t file) × T (k .under (file-of k (t .depth) file .line .balance) (t .root .amount)))
+checked place k laws h hashes sheet file s (Ok p) e r a = (
+  ap (λ x. or-else x (under k h (read-sheet k h sheet) file)) e ∙ ap (λ x. under k h x file) r ∙ a .0,
+  λ t q.
+      let same-sheet = some-sheet s t (sym r ∙ q) in
+      let root = sheet-root k laws h sheet s e r in
+      subst (λ x. (place p ≡ leaf-place k x file) × T (k .under (file-of k (x .depth) file .line .balance) (x .root .amount))) same-sheet
+      (a .1, passes-under k laws h hashes s file (root .0) (root .1) (a .0)),
+)
 checked place k laws h hashes sheet file s (Err y) e r a =
     ap (λ x. or-else x (under k h (read-sheet k h sheet) file)) e ∙ ap (λ x. under k h x file) r ∙ a

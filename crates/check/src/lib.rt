@@ -104,12 +104,21 @@ fn on_left(leaf: u32, j: u32) -> bool
 }
 
 // The node over the path's node and the step beside it.
-fn over<A: Amount, D: Digest>(digest: &D, left: bool, own: &Node<A>, step: &Node<A>) -> Result<Node<A>, Refusal>
+fn over<A: Amount, D: Digest>(
+    digest: &D,
+    left: bool,
+    own: &Node<A>,
+    step: &Node<A>,
+) -> Result<Node<A>, Refusal>
     ensures { λ r. ⌜ Answers r
         (join-refusal kind (meaning (cond left (now (own .entry)) (now (step .entry)) .amount)) (meaning (cond left (now (step .entry)) (now (own .entry)) .amount)))
         (λ n. node-of meaning n ≡ inner-node kind (D·Digest .hash (now (digest .entry))) (node-of meaning (cond left (now (own .entry)) (now (step .entry)))) (node-of meaning (cond left (now (step .entry)) (now (own .entry))))) ⌝ }
 {
-    if left { inner(digest, own, step) } else { inner(digest, step, own) }
+    if left {
+        inner(digest, own, step)
+    } else {
+        inner(digest, step, own)
+    }
 }
 
 // Sixteen bytes by value.
@@ -124,28 +133,72 @@ fn sixteen(part: &[u8]) -> [u8; 16]
 }
 
 // One field further up.
-fn walk<A: Amount, D: Digest>(digest: &D, closing: Closing, leaf_number: u32, walker: Walker<A>, found: Found) -> Result<Walker<A>, Refusal>
+fn walk<A: Amount, D: Digest>(
+    digest: &D,
+    closing: Closing,
+    leaf_number: u32,
+    walker: Walker<A>,
+    found: Found,
+) -> Result<Walker<A>, Refusal>
     requires { ⌜ walker .height < 32 ⌝ }
     ensures { λ r. ⌜ ((s : List ℕ) (depth i : ℕ) → Is-field (kind .width) s i (found .entry) → length (field-bytes (kind .width) s i) ≡ length-at (kind .width) i → i < 4 + depth
         → field-refusal kind s i ≡ None → «leaf_number» ≡ file-of kind depth s .leaf → Walks meaning kind (D·Digest .hash (now (digest .entry))) (closing .0) depth s i walker
         → Answers r (join-refusal-at kind (D·Digest .hash (now (digest .entry))) (closing .0) (file-of kind depth s) i)
-            (λ w. Walks meaning kind (D·Digest .hash (now (digest .entry))) (closing .0) depth s (i + 1) w)) ⌝ }
+        (λ w. Walks meaning kind (D·Digest .hash (now (digest .entry))) (closing .0) depth s (i + 1) w)) ⌝ }
 {
-    let Walker { customer, salt, own, height } = walker;
+    let Walker {
+        customer,
+        salt,
+        own,
+        height,
+    } = walker;
     match found.field {
-        Field::Head(_) => Ok(Walker { customer, salt, own, height }),
-        Field::Customer(part) => Ok(Walker { customer: sixteen(part), salt, own, height }),
-        Field::Salt(part) => Ok(Walker { customer, salt: sixteen(part), own, height }),
+        Field::Head(_) => Ok(Walker {
+            customer,
+            salt,
+            own,
+            height,
+        }),
+        Field::Customer(part) => Ok(Walker {
+            customer: sixteen(part),
+            salt,
+            own,
+            height,
+        }),
+        Field::Salt(part) => Ok(Walker {
+            customer,
+            salt: sixteen(part),
+            own,
+            height,
+        }),
         Field::Balance(part) => match A::read(part) {
             Ok(balance) => {
-                let own = leaf(digest, closing, &Line { customer, salt, balance });
-                Ok(Walker { customer, salt, own, height })
+                let own = leaf(
+                    digest,
+                    closing,
+                    &Line {
+                        customer,
+                        salt,
+                        balance,
+                    },
+                );
+                Ok(Walker {
+                    customer,
+                    salt,
+                    own,
+                    height,
+                })
             }
             Err(_) => Err(Refusal::BadAmount(found.offset)),
         },
         Field::Step(part) => match read_node(part) {
             Ok(step) => match over(digest, on_left(leaf_number, height), &own, &step) {
-                Ok(own) => Ok(Walker { customer, salt, own, height: height + 1 }),
+                Ok(own) => Ok(Walker {
+                    customer,
+                    salt,
+                    own,
+                    height: height + 1,
+                }),
                 Err(_) => Err(Refusal::JoinUnwritable(found.offset)),
             },
             Err(_) => Err(Refusal::BadAmount(found.offset)),
@@ -154,7 +207,13 @@ fn walk<A: Amount, D: Digest>(digest: &D, closing: Closing, leaf_number: u32, wa
 }
 
 // The top of the path, from the leaf up.
-fn climb<A: Amount, D: Digest>(digest: &D, closing: Closing, leaf_number: u32, depth: u32, file: &[u8]) -> Result<Node<A>, Refusal>
+fn climb<A: Amount, D: Digest>(
+    digest: &D,
+    closing: Closing,
+    leaf_number: u32,
+    depth: u32,
+    file: &[u8],
+) -> Result<Node<A>, Refusal>
     requires deep { ⌜ depth ≤ 20 ⌝ }
     requires long { ⌜ length (now file) ≡ file-length (kind .width) depth ⌝ }
     requires amounts { ⌜ amounts-refusal kind depth (now file) ≡ None ⌝ }
@@ -163,7 +222,15 @@ fn climb<A: Amount, D: Digest>(digest: &D, closing: Closing, leaf_number: u32, d
         (λ n. node-of meaning n ≡ path-node kind (D·Digest .hash (now (digest .entry))) (closing .0) (file-of kind depth (now (file .entry))) depth) ⌝ }
 {
     let mut fields = Fields::new::<A>(file, depth);
-    let mut walker = Walker { customer: [0; 16], salt: [0; 16], own: Node { digest: [0; 32], amount: A::zero() }, height: 0 };
+    let mut walker = Walker {
+        customer: [0; 16],
+        salt: [0; 16],
+        own: Node {
+            digest: [0; 32],
+            amount: A::zero(),
+        },
+        height: 0,
+    };
     while let Some(found) = fields.next() {
         let next = walk(digest, closing, leaf_number, walker, found)?;
         walker = next;
@@ -184,7 +251,11 @@ fn same_node<A: Amount>(a: &Node<A>, b: &Node<A>) -> bool
 }
 
 // Length, first seven bytes and leaf number of a file; answers the leaf number.
-fn check_shape<A: Amount, D: Digest>(digest: &D, sheet: &Sheet<A>, file: &[u8]) -> Result<u32, Refusal>
+fn check_shape<A: Amount, D: Digest>(
+    digest: &D,
+    sheet: &Sheet<A>,
+    file: &[u8],
+) -> Result<u32, Refusal>
     requires { ⌜ now sheet .depth ≤ 20 ⌝ }
     ensures { λ r. ⌜ Answers r (shape-refusal kind (D·Digest .hash (now (digest .entry))) (sheet-of meaning (now (sheet .entry))) (now (file .entry)))
         (λ n. (n ≡ file-of kind (now (sheet .entry) .depth) (now (file .entry)) .leaf) × (length (now (file .entry)) ≡ file-length (kind .width) (now (sheet .entry) .depth)) × (n < 2 ^ now (sheet .entry) .depth)) ⌝ }
@@ -208,7 +279,11 @@ fn check_shape<A: Amount, D: Digest>(digest: &D, sheet: &Sheet<A>, file: &[u8]) 
 
 // The check of a file under a sheet in hand. It passes exactly if the top of the path is the sheet's digest and total, and
 // answers the leaf's place.
-pub fn check_file<A: Amount, D: Digest>(digest: &D, sheet: &Sheet<A>, file: &[u8]) -> Result<Place, Refusal>
+pub fn check_file<A: Amount, D: Digest>(
+    digest: &D,
+    sheet: &Sheet<A>,
+    file: &[u8],
+) -> Result<Place, Refusal>
     ensures { λ r. ⌜ Answers r (under-refusal kind (D·Digest .hash (now (digest .entry))) (sheet-of meaning (now (sheet .entry))) (now (file .entry)))
         (λ p. p .0 ≡ leaf-place kind (sheet-of meaning (now (sheet .entry))) (now (file .entry))) ⌝ }
 {
@@ -230,7 +305,7 @@ pub fn check_file<A: Amount, D: Digest>(digest: &D, sheet: &Sheet<A>, file: &[u8
 pub fn check<A: Amount, D: Digest>(digest: &D, sheet: &[u8], file: &[u8]) -> Result<Place, Refusal>
     ensures { λ r. ⌜ Answers r (check-refusal kind (D·Digest .hash (now (digest .entry))) (now (sheet .entry)) (now (file .entry)))
         (λ p. ((s : SheetSaid) → read-sheet kind (D·Digest .hash (now (digest .entry))) (now (sheet .entry)) ≡ Some s
-            → (p .0 ≡ leaf-place kind s (now (file .entry))) × T (kind .under (file-of kind (s .depth) (now (file .entry)) .line .balance) (s .root .amount)))) ⌝ }
+        → (p .0 ≡ leaf-place kind s (now (file .entry))) × T (kind .under (file-of kind (s .depth) (now (file .entry)) .line .balance) (s .root .amount)))) ⌝ }
 {
     let read = sheet::read::<A, D>(digest, sheet)?;
     check_file(digest, &read, file)

@@ -66,9 +66,19 @@ impl<'a> Fields<'a> {
     {
         let width = A::width();
         if depth <= 20 && file.len() == 43 + width + depth as usize * (32 + width) {
-            Fields { file, width, count: 4 + depth as usize, index: 0 }
+            Fields {
+                file,
+                width,
+                count: 4 + depth as usize,
+                index: 0,
+            }
         } else {
-            Fields { file, width, count: 0, index: 0 }
+            Fields {
+                file,
+                width,
+                count: 0,
+                index: 0,
+            }
         }
     }
 
@@ -80,7 +90,7 @@ impl<'a> Fields<'a> {
         ensures found { λ r. ⌜ BySome r
             ((now (self .entry) .count ≤ now (self .entry) .index) × (now (self .exit) .index ≡ now (self .entry) .index))
             (λ f. (now (self .entry) .index < now (self .entry) .count) × (now (self .exit) .index ≡ now (self .entry) .index + 1)
-                × Is-field (now (self .entry) .width) (now (now (self .entry) .file)) (now (self .entry) .index) f) ⌝ }
+            × Is-field (now (self .entry) .width) (now (now (self .entry) .file)) (now (self .entry) .index) f) ⌝ }
     {
         let i = self.index;
         if i >= self.count {
@@ -90,6 +100,9 @@ impl<'a> Fields<'a> {
         let file = self.file;
         let part = &file[offset..offset + len];
         self.index = i + 1;
-        Some(Found { field: named(i, part), offset })
+        Some(Found {
+            field: named(i, part),
+            offset,
+        })
     }
 }

@@ -100,7 +100,7 @@ pub fn write_node<A: Amount>(node: &Node<A>, out: &mut [u8]) -> Result<usize, Re
     ensures answers { λ r. ⌜ Answers r
         (first ((ltb (length (now (out .entry))) (32 + kind .width) ⇒ BufferTooShort) ∷ []))
         (λ n. (n ≡ 32 + kind .width) × (n ≡ length (node-bytes kind (node-of meaning (now (node .entry)))))
-            × (now (out .exit) ≡ written (node-bytes kind (node-of meaning (now (node .entry)))) (now (out .entry)))) ⌝ }
+        × (now (out .exit) ≡ written (node-bytes kind (node-of meaning (now (node .entry)))) (now (out .entry)))) ⌝ }
     ensures refused { λ _. ⌜ (length (now (out .entry)) < 32 + kind .width → now (out .exit) ≡ now (out .entry)) ⌝ }
 {
     let end = 32 + A::width();

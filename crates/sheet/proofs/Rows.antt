@@ -117,17 +117,20 @@ module _ (k : Kind) (h : Hash) (s : List ℕ) (long : length s ≡ 39 + k .width
         let four : be 4 n ≡ take 4 (drop 3 s) = ap (be 4) number ∙ four-back (drop 3 s) (simp length-drop (omega arith)) (λ i. bytes-behind 3 s bytes i) in
         let node : node-bytes k x ≡ drop 7 s = node-back k laws (drop 7 s) x f in
         let front : (k .number ∷ h .number ∷ getD s 2 0 ∷ be 4 n) ++ node-bytes k x ≡ getD s 0 0 ∷ getD s 1 0 ∷ getD s 2 0 ∷ (take 4 (drop 3 s) ++ drop 7 s) =
-            ap (λ y. y ∷ h .number ∷ getD s 2 0 ∷ (be 4 n ++ node-bytes k x)) (sym (e .0))
-            ∙ ap (λ y. getD s 0 0 ∷ y ∷ getD s 2 0 ∷ (be 4 n ++ node-bytes k x)) (sym (e .1))
-            ∙ ap (λ y. getD s 0 0 ∷ getD s 1 0 ∷ getD s 2 0 ∷ (y ++ node-bytes k x)) four
-            ∙ ap (λ y. getD s 0 0 ∷ getD s 1 0 ∷ getD s 2 0 ∷ (take 4 (drop 3 s) ++ y)) node in
+        ap (λ y. y ∷ h .number ∷ getD s 2 0 ∷ (be 4 n ++ node-bytes k x)) (sym (e .0))
+        ∙ ap (λ y. getD s 0 0 ∷ y ∷ getD s 2 0 ∷ (be 4 n ++ node-bytes k x)) (sym (e .1))
+        ∙ ap (λ y. getD s 0 0 ∷ getD s 1 0 ∷ getD s 2 0 ∷ (y ++ node-bytes k x)) four
+        ∙ ap (λ y. getD s 0 0 ∷ getD s 1 0 ∷ getD s 2 0 ∷ (take 4 (drop 3 s) ++ y)) node in
         front ∙ seven s (omega arith)
 
     pub at-sheet : Laws k → ((i : ℕ) → getD s i 0 < 256) → (t : List ℕ) (x : Node) → t ≡ drop 7 s → first ((not (isSome (k .read (drop 32 t))) ⇒ BadAmount 32) ∷ []) ≡ None → read-node k t ≡ Some x
         → (sheet-refusal k h s ≡ None) × ((read-sheet k h s ≡ Some (record { closing = n; depth = getD s 2 0; root = x })) × (sheet-bytes k h (record { closing = n; depth = getD s 2 0; root = x }) ≡ s))
     at-sheet laws bytes t x p r q =
-        let f : read-node k (drop 7 s) ≡ Some x = ap (read-node k) (sym p) ∙ q in
-        (past-limits ∙ an-amount (k .read (drop 39 s)) (subst (λ y. first ((not (isSome (k .read y)) ⇒ BadAmount 32) ∷ []) ≡ None) (amount-at t p) r),
-         (ap (mapped (λ (m : Node). record { closing = value (take 4 (drop 3 s)); depth = getD s 2 0; root = m })) f
-         ∙ ap (λ (c : ℕ). Some (record { closing = c; depth = getD s 2 0; root = x })) (sym number),
-         same-bytes laws bytes x f))
+        let f : read-node k (drop 7 s) ≡ Some x = ap (read-node k) (sym p) ∙ q in (
+          past-limits ∙ an-amount (k .read (drop 39 s)) (subst (λ y. first ((not (isSome (k .read y)) ⇒ BadAmount 32) ∷ []) ≡ None) (amount-at t p) r),
+          (
+            ap (mapped (λ (m : Node). record { closing = value (take 4 (drop 3 s)); depth = getD s 2 0; root = m })) f
+                ∙ ap (λ (c : ℕ). Some (record { closing = c; depth = getD s 2 0; root = x })) (sym number),
+            same-bytes laws bytes x f,
+          ),
+        )

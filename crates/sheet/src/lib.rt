@@ -38,7 +38,7 @@ fn other_kinds<A: Amount, D: Digest>(digest: &D, amount_kind: u8, digest_kind: u
 pub fn read<A: Amount, D: Digest>(digest: &D, bytes: &[u8]) -> Result<Sheet<A>, Refusal>
     ensures { λ r. ⌜ Answers r (sheet-refusal kind (D·Digest .hash (now (digest .entry))) (now (bytes .entry)))
         (λ s. (read-sheet kind (D·Digest .hash (now (digest .entry))) (now (bytes .entry)) ≡ Some (sheet-of meaning s))
-            × (sheet-bytes kind (D·Digest .hash (now (digest .entry))) (sheet-of meaning s) ≡ now (bytes .entry))) ⌝ }
+        × (sheet-bytes kind (D·Digest .hash (now (digest .entry))) (sheet-of meaning s) ≡ now (bytes .entry))) ⌝ }
 {
     if bytes.len() != 39 + A::width() {
         return Err(Refusal::SheetLength);
@@ -56,7 +56,11 @@ pub fn read<A: Amount, D: Digest>(digest: &D, bytes: &[u8]) -> Result<Sheet<A>, 
         return Err(Refusal::BadLimits);
     }
     match read_node(&rest[4..rest.len()]) {
-        Ok(root) => Ok(Sheet { closing: Closing(number), depth: *depth, root }),
+        Ok(root) => Ok(Sheet {
+            closing: Closing(number),
+            depth: *depth,
+            root,
+        }),
         Err(_) => Err(Refusal::BadAmount(39)),
     }
 }
@@ -70,7 +74,11 @@ pub fn head<A: Amount, D: Digest>(digest: &D, closing: Closing, depth: u8) -> [u
 }
 
 // Writes the sheet to the front of the buffer, and answers its length.
-pub fn write<A: Amount, D: Digest>(digest: &D, sheet: &Sheet<A>, out: &mut [u8]) -> Result<usize, Refusal>
+pub fn write<A: Amount, D: Digest>(
+    digest: &D,
+    sheet: &Sheet<A>,
+    out: &mut [u8],
+) -> Result<usize, Refusal>
     ensures answers { λ r. ⌜ Answers r
         (first ((ltb (length (now (out .entry))) (39 + kind .width) ⇒ BufferTooShort) ∷ []))
         (λ n. (n ≡ 39 + kind .width) × (now (out .exit) ≡ written (sheet-bytes kind (D·Digest .hash (now (digest .entry))) (sheet-of meaning (now (sheet .entry)))) (now (out .entry)))) ⌝ }

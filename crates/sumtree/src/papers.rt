@@ -1,18 +1,23 @@
 //! Sheets and files as a script hands them in: the fields of a file, and the check.
+use crate::Answer;
 use crate::refused;
 use crate::words::show_bytes;
-use crate::Answer;
 use amount::Amount;
 use check::check;
-use digest::kinds::AnyDigest;
 use digest::AnyDigestDigest;
+use digest::kinds::AnyDigest;
+use file::Fields;
 use file::types::Field;
 use file::types::Found;
-use file::Fields;
 use std::alloc::AllocError;
 use std::alloc::Global;
 
-pub(crate) fn place<A: Amount>(heap: Global, digest: AnyDigest, sheet: &[u8], file: &[u8]) -> Result<Answer, AllocError> {
+pub(crate) fn place<A: Amount>(
+    heap: Global,
+    digest: AnyDigest,
+    sheet: &[u8],
+    file: &[u8],
+) -> Result<Answer, AllocError> {
     match check::<A, AnyDigest>(&digest, sheet, file) {
         Ok(place) => {
             let n = place.0;
@@ -39,7 +44,11 @@ fn show_field(heap: Global, line: &mut String, found: Found) -> Result<(), Alloc
     show_bytes(line, part)
 }
 
-pub(crate) fn fields<A: Amount>(heap: Global, depth: u32, file: &[u8]) -> Result<Answer, AllocError> {
+pub(crate) fn fields<A: Amount>(
+    heap: Global,
+    depth: u32,
+    file: &[u8],
+) -> Result<Answer, AllocError> {
     let mut line = String::from_str(heap, "fields")?;
     let mut reader = Fields::new::<A>(file, depth);
     // a file has at most 24 fields

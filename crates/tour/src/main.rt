@@ -1,10 +1,17 @@
-//! A tour of the library: one ledger from its lines, node by node, to the root and the total that go into the notice.
+//! A tour of the library: one ledger from its lines, node by node, to the sheet for the notice, and one line's file to the
+//! customer's check.
 //!
 //! It reads data/ledger.txt (a closing and a depth, then a line for each balance: customer number, salt and cents) and
 //! prints every step, so that a person can follow it.
 use amount::Amount;
+use bytes::be4;
+use bytes::be8;
+use check::check;
 use digest::Sha256Digest;
 use digest::kinds::Sha256;
+use file::Fields;
+use file::types::Field;
+use file::types::Found;
 use flat::FlatNodeStore;
 use flat::types::Flat;
 use hex::Hex;
@@ -22,6 +29,8 @@ use numbering::Leaf;
 use numbering::Place;
 use refusal::RefusalDisplay;
 use refusal::cases::Refusal;
+use sheet::head;
+use sheet::types::Sheet;
 use single::Single;
 use single::SingleAmount;
 use std::alloc::Global;
@@ -305,13 +314,171 @@ fn show_notice(rt: &LibcRuntime, store: &mut Flat, ledger: &Ledger) -> Result<()
     Ok(())
 }
 
+fn written_sheet(rt: &LibcRuntime, store: &mut Flat, ledger: &Ledger) -> Result<Vec<u8>, AnyError> {
+    let root = answered(rt, fetch(store, ledger.closing, 1))?;
+    let sheet = Sheet {
+        closing: ledger.closing,
+        depth: u8::try_from(ledger.depth)?,
+        root,
+    };
+    let mut bytes = vec![in rt.alloc(); 0; 47]?;
+    let written = sheet::write(&Sha256, &sheet, &mut bytes);
+    let n = answered(rt, written)?;
+    let shown = Hex(&bytes);
+    println!(rt, "The sheet, {n} bytes:")?;
+    println!(rt, "  {shown}")?;
+    Ok(bytes)
+}
+
+// The front of a line's file: head, leaf number, customer number, salt and balance.
+fn file_front(
+    rt: &LibcRuntime,
+    ledger: &Ledger,
+    n: u32,
+    line: &Line<Single>,
+) -> Result<Vec<u8>, AnyError> {
+    let mut file = Vec::new(rt.alloc());
+    file.extend_from_slice(
+        &head::<Single, Sha256>(&Sha256, ledger.closing, u8::try_from(ledger.depth)?),
+    )?;
+    file.extend_from_slice(&be4(n))?;
+    file.extend_from_slice(&line.customer)?;
+    file.extend_from_slice(&line.salt)?;
+    file.extend_from_slice(&be8(line.balance.cents))?;
+    Ok(file)
+}
+
+// Puts the node beside a place behind the file.
+fn push_step(
+    rt: &LibcRuntime,
+    store: &mut Flat,
+    closing: Closing,
+    place: u32,
+    file: &mut Vec<u8>,
+) -> Result<(), AnyError> {
+    let node = answered(rt, fetch(store, closing, place ^ 1))?;
+    let mut record = [0u8; 40];
+    let written = write_node(&node, &mut record);
+    answered(rt, written)?;
+    file.extend_from_slice(&record)?;
+    Ok(())
+}
+
+// The file of line n: the nodes beside its path come from the store, from the leaf up.
+fn line_file(
+    rt: &LibcRuntime,
+    store: &mut Flat,
+    ledger: &Ledger,
+    n: u32,
+    line: &Line<Single>,
+) -> Result<Vec<u8>, AnyError> {
+    let mut file = file_front(rt, ledger, n, line)?;
+    let mut place = level_len(ledger.depth, 0) | n;
+    for _ in 0..ledger.depth {
+        push_step(rt, store, ledger.closing, place, &mut file)?;
+        place /= 2;
+    }
+    Ok(file)
+}
+
+fn show_field(rt: &LibcRuntime, found: Found) -> io::Result<()> {
+    let offset = found.offset;
+    let (name, part) = match found.field {
+        Field::Head(part) => ("head", part),
+        Field::Customer(part) => ("customer", part),
+        Field::Salt(part) => ("salt", part),
+        Field::Balance(part) => ("balance", part),
+        Field::Step(part) => ("step", part),
+    };
+    let shown = Hex(part);
+    println!(rt, "  {name} at {offset}: {shown}")
+}
+
+fn show_fields(rt: &LibcRuntime, depth: u32, file: &[u8]) -> Result<(), AnyError> {
+    let len = file.len();
+    println!(rt, "The file of line 1, {len} bytes, by its fields:")?;
+    let mut fields = Fields::new::<Single>(file, depth);
+    for _ in 0..24 {
+        let Some(found) = fields.next() else {
+            break;
+        };
+        show_field(rt, found)?;
+    }
+    Ok(())
+}
+
+// Checks a file under the sheet, as a customer would, and says what came of it.
+fn show_check(rt: &LibcRuntime, what: &str, sheet: &[u8], file: &[u8]) -> io::Result<()> {
+    match check::<Single, Sha256>(&Sha256, sheet, file) {
+        Ok(place) => {
+            let place = place.0;
+            println!(rt, "  {what}: passes, at place {place}")
+        }
+        Err(r) => println!(rt, "  {what}: {r}"),
+    }
+}
+
+// A copy with one byte changed.
+fn with_byte(heap: Global, file: &[u8], at: usize) -> Result<Vec<u8>, AnyError> {
+    let mut copy = Vec::from_slice(heap, file)?;
+    if let Some(b) = copy.get_mut(at) {
+        *b = b.wrapping_add(1);
+    }
+    Ok(copy)
+}
+
+// A copy with its first two steps swapped.
+fn with_steps_swapped(heap: Global, file: &[u8]) -> Result<Vec<u8>, AnyError> {
+    if file.len() < 131 {
+        return Err("the file has fewer than two steps".into());
+    }
+    let mut copy = Vec::from_slice(heap, &file[0..51])?;
+    copy.extend_from_slice(&file[91..131])?;
+    copy.extend_from_slice(&file[51..91])?;
+    copy.extend_from_slice(&file[131..file.len()])?;
+    Ok(copy)
+}
+
+fn damage(rt: &LibcRuntime, sheet: &[u8], file: &[u8]) -> Result<(), AnyError> {
+    let heap = rt.alloc();
+    let richer = with_byte(heap, file, 50)?;
+    show_check(rt, "a cent more", sheet, &richer)?;
+    let resalted = with_byte(heap, file, 27)?;
+    show_check(rt, "another salt", sheet, &resalted)?;
+    let swapped = with_steps_swapped(heap, file)?;
+    show_check(rt, "two steps swapped", sheet, &swapped)?;
+    let cut = Vec::from_slice(heap, &file[0..file.len() / 2])?;
+    show_check(rt, "cut in half", sheet, &cut)?;
+    Ok(())
+}
+
+// One line's file, from the store to the customer's check.
+fn show_file(
+    rt: &LibcRuntime,
+    store: &mut Flat,
+    ledger: &Ledger,
+    sheet: &[u8],
+) -> Result<(), AnyError> {
+    let Some(line) = ledger.lines.get(1) else {
+        return Err("the ledger has no line 1".into());
+    };
+    let file = line_file(rt, store, ledger, 1, line)?;
+    show_fields(rt, ledger.depth, &file)?;
+    println!(rt, "The customer's check of it under the sheet:")?;
+    show_check(rt, "as issued", sheet, &file)?;
+    damage(rt, sheet, &file)
+}
+
 fn tour(rt: &LibcRuntime) -> Result<(), AnyError> {
     let text = fs::read_to_string(rt, "ledger.txt")?;
     let ledger = read_ledger(rt.alloc(), &text)?;
     show_lines(rt, &ledger)?;
     let mut store = node_store(rt.alloc(), ledger.closing, ledger.depth)?;
     build_tree(rt, &mut store, &ledger)?;
-    show_notice(rt, &mut store, &ledger)
+    show_notice(rt, &mut store, &ledger)?;
+    let sheet = written_sheet(rt, &mut store, &ledger)?;
+    println!(rt)?;
+    show_file(rt, &mut store, &ledger, &sheet)
 }
 
 fn main(rt: LibcRuntime) -> Result<(), AnyError> {

@@ -11,9 +11,13 @@ pub loop-found-holds : need.loop-found-holds
 loop-found-holds g c =
     let k = g .A·Amount .kind in
     let e = c .new-fields .ensures in
-    let n : c .new-fields .result .count ≡ 4 + c .args .depth = e .count ∙ all-fields (k .width) (c .args .depth) _ (c .pre .0) (c .pre .1) in
-    (e .file, e .width, n, ap (λ m. first-from (field-refusal k (c .args .file .now)) m 0) (let q : 4 + c .args .depth ≡ c .new-fields .result .count - c .new-fields .result .index = omega (arith, n, e .index) in q)
-     ∙ ap (first-from (field-refusal k (c .args .file .now)) (c .new-fields .result .count - c .new-fields .result .index)) (sym (e .index)))
+    let n : c .new-fields .result .count ≡ 4 + c .args .depth = e .count ∙ all-fields (k .width) (c .args .depth) _ (c .pre .0) (c .pre .1) in (
+      e .file,
+      e .width,
+      n,
+      ap (λ m. first-from (field-refusal k (c .args .file .now)) m 0) (let q : 4 + c .args .depth ≡ c .new-fields .result .count - c .new-fields .result .index = omega (arith, n, e .index) in q)
+          ∙ ap (first-from (field-refusal k (c .args .file .now)) (c .new-fields .result .count - c .new-fields .result .index)) (sym (e .index)),
+    )
 
 pub judge-requires : need.judge-requires
 judge-requires g c κs =
@@ -44,10 +48,13 @@ loop-found-again g c =
     let o = a .found in
     let v = c .loop-found .inv in
     let is = same-field (f .width) (k .width) (f .file .now) s (f .index) (c .in-Some .found) (v .1) (v .0) (o .2) in
-    let d = c .in-Continue-judge .ensures tt s (f .index) is .0 in
-    (a .file ∙ v .0, a .width ∙ v .1, a .count ∙ v .2,
-     v .3 ∙ fields-next (field-refusal k s) (f .count) (f .index) (o .0) d
-     ∙ ap (λ m. first-from (field-refusal k s) (m - (f .index + 1)) (f .index + 1)) (sym (a .count)) ∙ ap (λ i. first-from (field-refusal k s) (n .count - i) i) (sym (o .1)))
+    let d = c .in-Continue-judge .ensures tt s (f .index) is .0 in (
+      a .file ∙ v .0,
+      a .width ∙ v .1,
+      a .count ∙ v .2,
+      v .3 ∙ fields-next (field-refusal k s) (f .count) (f .index) (o .0) d
+          ∙ ap (λ m. first-from (field-refusal k s) (m - (f .index + 1)) (f .index + 1)) (sym (a .count)) ∙ ap (λ i. first-from (field-refusal k s) (n .count - i) i) (sym (o .1)),
+    )
 
 pub returns : need.returns
 returns g c =

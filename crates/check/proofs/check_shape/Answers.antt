@@ -29,8 +29,9 @@ returns g c =
     let long : length file ≡ file-length (k .width) (s .depth) = c .if-file-width .left ∙ ap (λ w. 43 + w + s .depth * (32 + w)) (c .width-width .ensures) in
     let number : c .in-Some .leaf-number ≡ value (take 4 (drop 7 file)) = c .in-Some .ensures tt ∙ ap (λ x. value (take 4 x)) (behind file) in
     let leaves = c .leaf-count .ensures .leaves (c .pre) in
-    let headed : true ≡ same (take 7 file) (c .head-head .result) = c .if-not-same-bytes .ensures tt in
-    (at-end k (g .D·Digest .hash (c .args .digest .now)) s file long
-     (ap (same (take 7 file)) (sym (c .head-head .ensures)) ∙ sym headed)
-     (c .in-Some .leaf-number) (c .leaf-count .result) number leaves (c .if-leaf-number-leaf-count .left),
-     (number, long, omega (arith, leaves, c .if-leaf-number-leaf-count .left)))
+    let headed : true ≡ same (take 7 file) (c .head-head .result) = c .if-not-same-bytes .ensures tt in (
+      at-end k (g .D·Digest .hash (c .args .digest .now)) s file long
+          (ap (same (take 7 file)) (sym (c .head-head .ensures)) ∙ sym headed)
+          (c .in-Some .leaf-number) (c .leaf-count .result) number leaves (c .if-leaf-number-leaf-count .left),
+      (number, long, omega (arith, leaves, c .if-leaf-number-leaf-count .left)),
+    )

@@ -15,16 +15,19 @@ loop-found-holds g c =
     let h = g .D·Digest .hash (c .args .digest .now) in
     let e = c .new-fields .ensures in
     let n : c .new-fields .result .count ≡ 4 + c .args .depth = e .count ∙ all-fields (k .width) (c .args .depth) _ (c .pre .deep) (c .pre .long) in
-    let j = join-refusal-at k h (c .args .closing .0) (file-of k (c .args .depth) (c .args .file .now)) in
-    (e .file, e .width, n,
-     record {
-       customer-is = λ l. absurd (omega (arith, e .index));
-       salt-is = λ l. absurd (omega (arith, e .index));
-       height-is = omega (arith, e .index);
-       own-is = λ l. absurd (omega (arith, e .index));
-     },
-     ap (λ m. first-from j m 0) (let q : 4 + c .args .depth ≡ c .new-fields .result .count - c .new-fields .result .index = omega (arith, n, e .index) in q)
-     ∙ ap (first-from j (c .new-fields .result .count - c .new-fields .result .index)) (sym (e .index)))
+    let j = join-refusal-at k h (c .args .closing .0) (file-of k (c .args .depth) (c .args .file .now)) in (
+      e .file,
+      e .width,
+      n,
+      record {
+        customer-is = λ l. absurd (omega (arith, e .index));
+        salt-is = λ l. absurd (omega (arith, e .index));
+        height-is = omega (arith, e .index);
+        own-is = λ l. absurd (omega (arith, e .index));
+      },
+      ap (λ m. first-from j m 0) (let q : 4 + c .args .depth ≡ c .new-fields .result .count - c .new-fields .result .index = omega (arith, n, e .index) in q)
+          ∙ ap (first-from j (c .new-fields .result .count - c .new-fields .result .index)) (sym (e .index)),
+    )
 
 pub walk-requires : need.walk-requires
 walk-requires g c κs =
@@ -47,7 +50,7 @@ returns-in-Break-next g c =
     let good = none-at (field-refusal k s) (4 + d) (f .index) (c .pre .amounts) below in
     handed-on (c .from-residual .result) _ _ e (c .from-residual .ensures .1)
     (v .4 ∙ fields-stop (join-refusal-at k h (c .args .closing .0) (file-of k d s)) (f .count) (f .index) (o .0) e
-     (c .in-Break-next .ensures tt s d (f .index) is long below good (c .pre .number) (v .3)))
+    (c .in-Break-next .ensures tt s d (f .index) is long below good (c .pre .number) (v .3)))
 
 pub loop-found-again : need.loop-found-again
 loop-found-again g c =
@@ -65,11 +68,14 @@ loop-found-again g c =
     let long = field-long (k .width) s (f .index) d (c .pre .long) below in
     let good = none-at (field-refusal k s) (4 + d) (f .index) (c .pre .amounts) below in
     let w = c .in-Continue-next .ensures tt s d (f .index) is long below good (c .pre .number) (v .3) in
-    let j = join-refusal-at k h (c .args .closing .0) (file-of k d s) in
-    (a .file ∙ v .0, a .width ∙ v .1, a .count ∙ v .2,
-     subst (λ i. Walks (g .A·Amount .meaning) k h (c .args .closing .0) d s i (c .in-Continue-next .next)) (sym (o .1)) (w .1),
-     v .4 ∙ fields-next j (f .count) (f .index) (o .0) (w .0)
-     ∙ ap (λ m. first-from j (m - (f .index + 1)) (f .index + 1)) (sym (a .count)) ∙ ap (λ i. first-from j (n .count - i) i) (sym (o .1)))
+    let j = join-refusal-at k h (c .args .closing .0) (file-of k d s) in (
+      a .file ∙ v .0,
+      a .width ∙ v .1,
+      a .count ∙ v .2,
+      subst (λ i. Walks (g .A·Amount .meaning) k h (c .args .closing .0) d s i (c .in-Continue-next .next)) (sym (o .1)) (w .1),
+      v .4 ∙ fields-next j (f .count) (f .index) (o .0) (w .0)
+          ∙ ap (λ m. first-from j (m - (f .index + 1)) (f .index + 1)) (sym (a .count)) ∙ ap (λ i. first-from j (n .count - i) i) (sym (o .1)),
+    )
 
 pub returns : need.returns
 returns g c =
@@ -80,6 +86,7 @@ returns g c =
     let f = c .loop-found .fields in
     let v = c .loop-found .inv in
     let o = c .in-rest .ensures tt .found .0 in
-    let ff = file-of k d s in
-    (v .4 ∙ fields-done (join-refusal-at k h (c .args .closing .0) ff) (f .count) (f .index) o,
-     v .3 .own-is (omega (arith, o, v .2)) ∙ ap (path-node k h (c .args .closing .0) ff) (let e : f .index - 4 ≡ d = omega (arith, o, v .2, f .narrow) in e))
+    let ff = file-of k d s in (
+      v .4 ∙ fields-done (join-refusal-at k h (c .args .closing .0) ff) (f .count) (f .index) o,
+      v .3 .own-is (omega (arith, o, v .2)) ∙ ap (path-node k h (c .args .closing .0) ff) (let e : f .index - 4 ≡ d = omega (arith, o, v .2, f .narrow) in e),
+    )

@@ -28,15 +28,16 @@ returns-in-Ok-over g c s depth i f long below amount number walks =
     let r = node-of m (cond b st (w .own)) in
     let py = step-is k s (c .in-Step .part .now) depth i y low below part (c .in-Ok-read-node .ensures tt .1) in
     let pl = chosen (node-of m) b (w .own) st in
-    let pr = chosen (node-of m) b st (w .own) in
-    (climbs k h n ff i low b bit x y l r (walks .own-is low) py pl pr (c .in-Ok-over .ensures tt .0),
-     record {
-       customer-is = λ _. walks .customer-is (omega arith);
-       salt-is = λ _. walks .salt-is (omega arith);
-       height-is = omega (arith, walks .height-is);
-       own-is = λ _. c .in-Ok-over .ensures tt .1 ∙ above k h n ff i low b bit x y l r (walks .own-is low) py pl pr
-           ∙ ap (path-node k h n ff) (let e : suc (i - 4) ≡ i + 1 - 4 = omega arith in e);
-     })
+    let pr = chosen (node-of m) b st (w .own) in (
+      climbs k h n ff i low b bit x y l r (walks .own-is low) py pl pr (c .in-Ok-over .ensures tt .0),
+      record {
+        customer-is = λ _. walks .customer-is (omega arith);
+        salt-is = λ _. walks .salt-is (omega arith);
+        height-is = omega (arith, walks .height-is);
+        own-is = λ _. c .in-Ok-over .ensures tt .1 ∙ above k h n ff i low b bit x y l r (walks .own-is low) py pl pr
+            ∙ ap (path-node k h n ff) (let e : suc (i - 4) ≡ i + 1 - 4 = omega arith in e);
+      },
+    )
 
 pub returns-in-Err-over : need.returns-in-Err-over
 returns-in-Err-over g c s depth i f long below amount number walks =

@@ -29,7 +29,7 @@ returns g c =
     let n : c .write-node .last .out ≡ b = c .in-Ok .ensures tt .answers .1 .2 ∙ written-all b part lo in
     let k : 39 + w - 7 ≡ length (c .write-node .last .out) = omega (arith, ap length n) in
     let p = two-parts out f (c .write-node .last .out) 7 (39 + w - 7) (ap length e) k
-        ∙ ap (λ x. written (x ++ c .write-node .last .out) out) e ∙ ap (λ x. written (hd ++ x) out) n in
+    ∙ ap (λ x. written (x ++ c .write-node .last .out) out) e ∙ ap (λ x. written (hd ++ x) out) n in
     record {
       answers = (search needs, (ap (λ x. 39 + x) (c .width-end .ensures), p));
       refused = λ h. absurd (omega (arith, c .width-end .ensures));
