@@ -3,14 +3,15 @@
 //! `specs/Layout` has the layout once: kinds, depth and closing, the root's digest and the total. A change of the layout
 //! is made there and in the two functions here.
 ghost use mathlib.Core.Path.{_≡_};
-ghost use mathlib.Core.Bool.{not, _&&_};
+ghost use mathlib.Core.Bool.{not, false, _&&_};
 ghost use mathlib.Core.List.{[], _∷_};
 ghost use Prim.Native.Nat.{ℕ, _+_, _<_};
 ghost use lib.Dec.{eqb, ltb};
 ghost use lib.ListN.{length};
-ghost use Rattle.std.specs.declared.option.Option.the-variants.{Some};
+ghost use Rattle.std.specs.declared.option.Option.the-variants.{Some, None};
 ghost use Rattle.refusal.specs.declared.cases.Refusal.the-variants.{BufferTooShort};
 ghost use Rattle.refusal.specs.Tables.{_⇒_, first, written, Answers};
+ghost use Rattle.tree.specs.Trees.{bad-limits};
 ghost use Rattle.sheet.specs.Layout.{head as head-bytes, sheet-bytes, sheet-refusal, read-sheet};
 ghost use Rattle.sheet.specs.Meant.{sheet-of};
 
@@ -73,7 +74,8 @@ pub fn head<A: Amount, D: Digest>(digest: &D, closing: Closing, depth: u8) -> [u
     [A::number(), digest.number(), depth, a, b, c, d]
 }
 
-// Writes the sheet to the front of the buffer, and answers its length.
+// Writes the sheet to the front of the buffer, and answers its length. A sheet with a closing and a depth that there are
+// reads back to itself.
 pub fn write<A: Amount, D: Digest>(
     digest: &D,
     sheet: &Sheet<A>,
@@ -81,7 +83,11 @@ pub fn write<A: Amount, D: Digest>(
 ) -> Result<usize, Refusal>
     ensures answers { λ r. ⌜ Answers r
         (first ((ltb (length (now (out .entry))) (39 + kind .width) ⇒ BufferTooShort) ∷ []))
-        (λ n. (n ≡ 39 + kind .width) × (now (out .exit) ≡ written (sheet-bytes kind (D·Digest .hash (now (digest .entry))) (sheet-of meaning (now (sheet .entry)))) (now (out .entry)))) ⌝ }
+        (λ n. (n ≡ 39 + kind .width)
+            × (now (out .exit) ≡ written (sheet-bytes kind (D·Digest .hash (now (digest .entry))) (sheet-of meaning (now (sheet .entry)))) (now (out .entry)))
+            × (bad-limits (now (sheet .entry) .closing .0) (now (sheet .entry) .depth) ≡ false
+                → (sheet-refusal kind (D·Digest .hash (now (digest .entry))) (sheet-bytes kind (D·Digest .hash (now (digest .entry))) (sheet-of meaning (now (sheet .entry)))) ≡ None)
+                × (read-sheet kind (D·Digest .hash (now (digest .entry))) (sheet-bytes kind (D·Digest .hash (now (digest .entry))) (sheet-of meaning (now (sheet .entry)))) ≡ Some (sheet-of meaning (now (sheet .entry)))))) ⌝ }
     ensures refused { λ _. ⌜ (length (now (out .entry)) < 39 + kind .width → now (out .exit) ≡ now (out .entry)) ⌝ }
 {
     let end = 39 + A::width();

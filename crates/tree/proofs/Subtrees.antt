@@ -132,6 +132,11 @@ either false false e = (λ h. h, λ h. h)
 pub shallow : (depth closing : ℕ) → bad-limits closing depth ≡ false → depth ≤ 20
 shallow depth closing b = nltb→le 20 depth (not-T (ltb 20 depth) (either (ltb 20 depth) (ltb closing 1 || ltb 9999 closing) b .0))
 
+pub known-closing : (depth closing : ℕ) → bad-limits closing depth ≡ false → closing ≤ 9999
+known-closing depth closing b =
+    let p = either (ltb 20 depth) (ltb closing 1 || ltb 9999 closing) b .1 in
+    nltb→le 9999 closing (not-T (ltb 9999 closing) (either (ltb closing 1) (ltb 9999 closing) (false-T (ltb closing 1 || ltb 9999 closing) p) .1))
+
 pub has-node : (depth height n closing : ℕ) → bad-limits closing depth ≡ false → ltb depth height || leb (2 ^ (depth - height)) n ≡ false → (n + 1) * 2 ^ height ≤ 2 ^ 20
 has-node depth height n closing b e =
     let p = either (ltb depth height) (leb (2 ^ (depth - height)) n) e in

@@ -4,13 +4,15 @@ use Prim.Native.Nat.{ℕ, _+_, _-_, _≤_}
 use native.Mathlib.Omega.{arith}
 use borrow.Author.Needs.{needs}
 use borrow.Rule.Slice.PartMut.{putMid, postOf}
-use lib.ListN.{length, take, drop, length-take}
+use lib.ListN.{length, take, drop, length-take, length-append}
 use Rattle.refusal.specs.Tables.{written}
 use Rattle.refusal.proofs.Buffers.{written-all}
 use Rattle.node.specs.Texts.{node-bytes}
 use Rattle.node.specs.Meant.{node-of}
 use Rattle.node.proofs.NodeBytes.{two-parts}
 use Rattle.sheet.specs.Layout.{head}
+use Rattle.sheet.specs.Meant.{sheet-of}
+use Rattle.sheet.proofs.Back.{reads-back}
 use Rattle.sheet.proofs.write.Needs as need
 
 pub returns : need.returns
@@ -30,7 +32,10 @@ returns g c =
     let k : 39 + w - 7 ≡ length (c .write-node .last .out) = omega (arith, ap length n) in
     let p = two-parts out f (c .write-node .last .out) 7 (39 + w - 7) (ap length e) k
     ∙ ap (λ x. written (x ++ c .write-node .last .out) out) e ∙ ap (λ x. written (hd ++ x) out) n in
+    let laws = g .A·Amount·met .lawful in
+    let wide = laws .bytes-width (a .meaning (s .root .amount)) (g .A·Amount·met .sound (s .root .amount)) in
+    let ld : length (s .root .digest) ≡ 32 = omega (arith, length-append (s .root .digest) (a .kind .bytes (a .meaning (s .root .amount))), lb, wide, c .width-end .ensures) in
     record {
-      answers = (search needs, (ap (λ x. 39 + x) (c .width-end .ensures), p));
+      answers = (search needs, (ap (λ x. 39 + x) (c .width-end .ensures), p, λ good. reads-back (a .kind) laws (g .D·Digest .hash (c .args .digest .now)) (sheet-of (a .meaning) s) ld (g .A·Amount·met .sound (s .root .amount)) good));
       refused = λ h. absurd (omega (arith, c .width-end .ensures));
     }
