@@ -2,3 +2,4 @@ pub mod Amounts
 pub mod Climbs
 pub mod Shapes
 pub mod Under
+pub mod Whole

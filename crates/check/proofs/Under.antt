@@ -39,7 +39,7 @@ there k laws s e = found (k .read s) refl e
     found None r f = absurd (let z : _≡_ {A = ℕ} 0 1 = cc in omega arith)
     found (Some m) r f = laws .read-only s m r .0
 
-unless : (b : Bool) (r : Refusal) → cond b None (Some r) ≡ None → b ≡ true
+pub unless : (b : Bool) (r : Refusal) → cond b None (Some r) ≡ None → b ≡ true
 unless true r e = refl
 unless false r e = absurd (let z : _≡_ {A = ℕ} 0 1 = cc in omega arith)
 
@@ -114,15 +114,15 @@ passes-under k laws h hashes s bytes l w e =
     (root-same (same (node-bytes k (path-node k h (s .closing) f (s .depth))) (node-bytes k (s .root))) (d .1))
 
 -- a sheet that is read: its root's digest has 32 bytes, and its total can be written
-row-past : (b : Bool) (r : Refusal) (rest : Option Refusal) → cond b (Some r) rest ≡ None → b ≡ false
+pub row-past : (b : Bool) (r : Refusal) (rest : Option Refusal) → cond b (Some r) rest ≡ None → b ≡ false
 row-past true r rest e = absurd (let z : _≡_ {A = ℕ} 0 1 = cc in omega arith)
 row-past false r rest e = refl
 
-not-not : (b : Bool) → not b ≡ false → T b
+pub not-not : (b : Bool) → not b ≡ false → T b
 not-not true e = tt
 not-not false e = absurd (let z : _≡_ {A = ℕ} 0 1 = cc in omega arith)
 
-sheet-root : (k : Kind) → Laws k → (h : Hash) (sheet : List ℕ) (s : Sheet) → sheet-refusal k h sheet ≡ None → read-sheet k h sheet ≡ Some s → (length (s .root .digest) ≡ 32) × T (k .writable (s .root .amount))
+pub sheet-root : (k : Kind) → Laws k → (h : Hash) (sheet : List ℕ) (s : Sheet) → sheet-refusal k h sheet ≡ None → read-sheet k h sheet ≡ Some s → (length (s .root .digest) ≡ 32) × T (k .writable (s .root .amount))
 sheet-root k laws h sheet s e r = found (k .read (drop 32 (drop 7 sheet))) refl r
   where
     long : length sheet ≡ 39 + k .width
@@ -136,22 +136,3 @@ sheet-root k laws h sheet s e r = found (k .read (drop 32 (drop 7 sheet))) refl 
         let d : record { closing = value (take 4 (drop 3 sheet)); depth = getD sheet 2 0; root = record { digest = take 32 (drop 7 sheet); amount = m } } ≡ s = cc in
         let l : length (take 32 (drop 7 sheet)) ≡ 32 = simp (length-take, length-drop) (omega (arith, long)) in
         subst (λ x. (length (x .root .digest) ≡ 32) × T (k .writable (x .root .amount))) d (l, laws .read-only (drop 32 (drop 7 sheet)) m p .0)
-
-some-sheet : (s t : Sheet) → _≡_ {A = Option Sheet} (Some s) (Some t) → s ≡ t
-some-sheet s t e = cc
-
--- the check of bytes from the check under the sheet that they are
-pub checked : {X : Type 0} (place : X → ℕ) (k : Kind) → Laws k → (h : Hash) → HashLaws h → (sheet file : List ℕ) (s : Sheet) (r : Result X Refusal)
-    → sheet-refusal k h sheet ≡ None → read-sheet k h sheet ≡ Some s → Answers r (under-refusal k h s file) (λ p. place p ≡ leaf-place k s file)
-    → Answers r (check-refusal k h sheet file)
-    (λ p. (t : Sheet) → read-sheet k h sheet ≡ Some t → (place p ≡ leaf-place k t file) × T (k .under (file-of k (t .depth) file .line .balance) (t .root .amount)))
-checked place k laws h hashes sheet file s (Ok p) e r a = (
-  ap (λ x. or-else x (under k h (read-sheet k h sheet) file)) e ∙ ap (λ x. under k h x file) r ∙ a .0,
-  λ t q.
-      let same-sheet = some-sheet s t (sym r ∙ q) in
-      let root = sheet-root k laws h sheet s e r in
-      subst (λ x. (place p ≡ leaf-place k x file) × T (k .under (file-of k (x .depth) file .line .balance) (x .root .amount))) same-sheet
-      (a .1, passes-under k laws h hashes s file (root .0) (root .1) (a .0)),
-)
-checked place k laws h hashes sheet file s (Err y) e r a =
-    ap (λ x. or-else x (under k h (read-sheet k h sheet) file)) e ∙ ap (λ x. under k h x file) r ∙ a

@@ -12,7 +12,7 @@ ghost use Rattle.std.specs.Options.{isSome};
 ghost use Rattle.std.specs.declared.option.Option.the-variants.{Some, None};
 ghost use Rattle.refusal.specs.Tables.{Answers};
 ghost use Rattle.sheet.specs.Meant.{sheet-of};
-ghost use Rattle.file.specs.Layout.{file-length};
+ghost use Rattle.file.specs.Layout.{file-bytes, file-length};
 ghost use Rattle.file.specs.Fields.{Is-field};
 ghost use Rattle.check.specs.Paths.{file-of, path-node};
 ghost use Rattle.check.specs.Checks.{shape-refusal, field-refusal, amounts-refusal, join-refusal-at, joins-refusal, top-refusal, file-refusal, under-refusal, check-refusal, leaf-place};
@@ -301,11 +301,13 @@ pub fn check_file<A: Amount, D: Digest>(
 }
 
 // The customer's check: a file under a sheet, both as bytes of any length and content. Where it passes, the balance in the
-// file is under the total on the sheet.
+// file is under the total on the sheet, and the file has exactly the bytes of what it says.
 pub fn check<A: Amount, D: Digest>(digest: &D, sheet: &[u8], file: &[u8]) -> Result<Place, Refusal>
     ensures { λ r. ⌜ Answers r (check-refusal kind (D·Digest .hash (now (digest .entry))) (now (sheet .entry)) (now (file .entry)))
         (λ p. ((s : SheetSaid) → read-sheet kind (D·Digest .hash (now (digest .entry))) (now (sheet .entry)) ≡ Some s
-        → (p .0 ≡ leaf-place kind s (now (file .entry))) × T (kind .under (file-of kind (s .depth) (now (file .entry)) .line .balance) (s .root .amount)))) ⌝ }
+        → (p .0 ≡ leaf-place kind s (now (file .entry)))
+        × T (kind .under (file-of kind (s .depth) (now (file .entry)) .line .balance) (s .root .amount))
+        × (file-bytes kind (D·Digest .hash (now (digest .entry))) (s .closing) (s .depth) (file-of kind (s .depth) (now (file .entry))) ≡ now (file .entry)))) ⌝ }
 {
     let read = sheet::read::<A, D>(digest, sheet)?;
     check_file(digest, &read, file)

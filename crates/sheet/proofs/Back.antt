@@ -38,10 +38,11 @@ reads-back k laws h s l w good =
     let long : length sb ≡ 39 + k .width = omega (arith, length-append (s .root .digest) b, l, wide) in
     let a : not (eqb (length sb) (39 + k .width)) ≡ false = ap not (true-T (eqb (length sb) (39 + k .width)) (eqb-in (length sb) (39 + k .width) long)) in
     let c : not (eqb (k .number) (k .number) && eqb (h .number) (h .number)) ≡ false =
-        ap not (true-T (eqb (k .number) (k .number) && eqb (h .number) (h .number)) (both-in (eqb (k .number) (k .number)) (eqb (h .number) (h .number)) (eqb-refl (k .number)) (eqb-refl (h .number)))) in
+    ap not (true-T (eqb (k .number) (k .number) && eqb (h .number) (h .number)) (both-in (eqb (k .number) (k .number)) (eqb (h .number) (h .number)) (eqb-refl (k .number)) (eqb-refl (h .number)))) in
     let v : value (be 4 (s .closing)) ≡ s .closing = value-be-small 4 (s .closing) (omega (arith, known-closing (s .depth) (s .closing) good)) in
     let d : bad-limits (value (be 4 (s .closing))) (s .depth) ≡ false = ap (λ x. bad-limits x (s .depth)) v ∙ good in
-    let e : isSome (k .read (drop 39 sb)) ≡ true = ap (λ x. isSome (k .read x)) (drop-at (s .root .digest) b 32 l) ∙ ap isSome (laws .read-bytes (s .root .amount) w) in
-    (rw (a, c, d, e),
-     ap (mapped (λ (n : Node). record { closing = value (be 4 (s .closing)); depth = s .depth; root = n })) (node-read k laws (s .root) l w)
-     ∙ ap (λ (x : ℕ). Some (record { closing = x; depth = s .depth; root = s .root })) v)
+    let e : isSome (k .read (drop 39 sb)) ≡ true = ap (λ x. isSome (k .read x)) (drop-at (s .root .digest) b 32 l) ∙ ap isSome (laws .read-bytes (s .root .amount) w) in (
+      rw (a, c, d, e),
+      ap (mapped (λ (n : Node). record { closing = value (be 4 (s .closing)); depth = s .depth; root = n })) (node-read k laws (s .root) l w)
+          ∙ ap (λ (x : ℕ). Some (record { closing = x; depth = s .depth; root = s .root })) v,
+    )

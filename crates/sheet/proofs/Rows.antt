@@ -41,7 +41,7 @@ equal-kinds a b c d e =
     kept false e = absurd (let z : _≡_ {A = ℕ} 0 1 = cc in omega arith)
 
 -- four bytes read as a number and written again
-four-back : (s : List ℕ) → 4 ≤ length s → ((i : ℕ) → getD s i 0 < 256) → be 4 (value (take 4 s)) ≡ take 4 s
+pub four-back : (s : List ℕ) → 4 ≤ length s → ((i : ℕ) → getD s i 0 < 256) → be 4 (value (take 4 s)) ≡ take 4 s
 four-back [] l b = absurd (omega arith)
 four-back (w ∷ []) l b = absurd (omega arith)
 four-back (w ∷ x ∷ []) l b = absurd (omega arith)
@@ -55,7 +55,7 @@ four-back (w ∷ x ∷ y ∷ z ∷ s) l b = be-value (w ∷ x ∷ y ∷ z ∷ []
     fourth w x y z p q r t (suc (suc (suc zero))) = t
     fourth w x y z p q r t (suc (suc (suc (suc i)))) = omega arith
 
-bytes-behind : (n : ℕ) (s : List ℕ) → ((i : ℕ) → getD s i 0 < 256) → (i : ℕ) → getD (drop n s) i 0 < 256
+pub bytes-behind : (n : ℕ) (s : List ℕ) → ((i : ℕ) → getD s i 0 < 256) → (i : ℕ) → getD (drop n s) i 0 < 256
 bytes-behind n s b i = let e = getD-drop n s i 0 in let q = b (n + i) in omega arith
 
 -- a node read and written again

@@ -84,10 +84,10 @@ pub fn write<A: Amount, D: Digest>(
     ensures answers { λ r. ⌜ Answers r
         (first ((ltb (length (now (out .entry))) (39 + kind .width) ⇒ BufferTooShort) ∷ []))
         (λ n. (n ≡ 39 + kind .width)
-            × (now (out .exit) ≡ written (sheet-bytes kind (D·Digest .hash (now (digest .entry))) (sheet-of meaning (now (sheet .entry)))) (now (out .entry)))
-            × (bad-limits (now (sheet .entry) .closing .0) (now (sheet .entry) .depth) ≡ false
-                → (sheet-refusal kind (D·Digest .hash (now (digest .entry))) (sheet-bytes kind (D·Digest .hash (now (digest .entry))) (sheet-of meaning (now (sheet .entry)))) ≡ None)
-                × (read-sheet kind (D·Digest .hash (now (digest .entry))) (sheet-bytes kind (D·Digest .hash (now (digest .entry))) (sheet-of meaning (now (sheet .entry)))) ≡ Some (sheet-of meaning (now (sheet .entry)))))) ⌝ }
+        × (now (out .exit) ≡ written (sheet-bytes kind (D·Digest .hash (now (digest .entry))) (sheet-of meaning (now (sheet .entry)))) (now (out .entry)))
+        × (bad-limits (now (sheet .entry) .closing .0) (now (sheet .entry) .depth) ≡ false
+        → (sheet-refusal kind (D·Digest .hash (now (digest .entry))) (sheet-bytes kind (D·Digest .hash (now (digest .entry))) (sheet-of meaning (now (sheet .entry)))) ≡ None)
+        × (read-sheet kind (D·Digest .hash (now (digest .entry))) (sheet-bytes kind (D·Digest .hash (now (digest .entry))) (sheet-of meaning (now (sheet .entry)))) ≡ Some (sheet-of meaning (now (sheet .entry)))))) ⌝ }
     ensures refused { λ _. ⌜ (length (now (out .entry)) < 39 + kind .width → now (out .exit) ≡ now (out .entry)) ⌝ }
 {
     let end = 39 + A::width();
