@@ -53,6 +53,8 @@ uint64_t plain_slots_work(uint32_t bound, uint32_t puts, uint32_t gets, const ui
         if (get(&s, 1, place, record, 40, &found) == 0 && found) sum += record[0] + record[39];
         place = place < last ? place + 1 : 1;
     }
+    // Every byte of the last record counts, so that no copy of a record can be left out.
+    for (int i = 0; i < 40; i++) sum += record[i];
     free(s.memory);
     return taken + sum + s.room;
 }
