@@ -56,7 +56,12 @@ fn work(heap: Global, bound: u32, puts: u32, gets: u32) -> u64 {
     let Ok(memory) = Vec::from_elem(heap, 0u8, bound as usize * 41) else {
         return 0;
     };
-    let limits = Limits { width: 40, first: 1, last: 1, bound };
+    let limits = Limits {
+        width: 40,
+        first: 1,
+        last: 1,
+        bound,
+    };
     let mut store = Flat::new(memory, limits);
     let mut text = [0u8; 56];
     for i in 0..56u8 {
