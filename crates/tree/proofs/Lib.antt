@@ -1,1 +1,2 @@
 pub mod Subtrees
+pub mod Totals

@@ -124,7 +124,7 @@ many f xs t d e h = true-T (ltb (2 ^ d) (length (map f xs))) (lt→ltb (2 ^ d) (
 pub few : {A : Type 0} (f : A → Line) (xs : List A) (t d : ℕ) → t ≡ 2 ^ d → length xs ≤ t → ltb (2 ^ d) (length (map f xs)) ≡ false
 few f xs t d e h = false-T (ltb (2 ^ d) (length (map f xs))) (λ p. let q = ltb→lt (2 ^ d) (length (map f xs)) p in omega (arith, length-map xs f))
 
-either : (a b : Bool) → a || b ≡ false → (T a → ⊥) × (T b → ⊥)
+pub either : (a b : Bool) → a || b ≡ false → (T a → ⊥) × (T b → ⊥)
 either true b e = (λ _. let z : _≡_ {A = ℕ} 0 1 = cc in omega arith, λ _. let z : _≡_ {A = ℕ} 0 1 = cc in omega arith)
 either false true e = (λ h. h, λ _. let z : _≡_ {A = ℕ} 0 1 = cc in omega arith)
 either false false e = (λ h. h, λ h. h)

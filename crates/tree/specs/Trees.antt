@@ -1,6 +1,6 @@
 -- The tree of a ledger: what stands at each of its places.
 use mathlib.Core.Bool.{Bool, not, _&&_, _||_}
-use mathlib.Core.List.{List, [], _∷_}
+use mathlib.Core.List.{List, [], _∷_, map}
 use Prim.Native.Nat.{ℕ, zero, suc, _+_, _-_, _*_, _^_}
 use lib.Dec.{leb, ltb}
 use lib.ListN.{length}
@@ -10,7 +10,7 @@ use Rattle.std.specs.declared.option.Option.the-variants.{Some, None}
 use Rattle.refusal.specs.declared.cases.Refusal.{Refusal}
 use Rattle.refusal.specs.declared.cases.Refusal.the-variants.{BadLimits, LeavesTaken, LeafOutside, JoinUnwritable}
 use Rattle.refusal.specs.Tables.{_⇒_, first}
-use Rattle.amount.specs.Kinds.{Kind}
+use Rattle.amount.specs.Kinds.{Kind, total}
 use Rattle.digest.specs.Hashes.{Hash}
 use Rattle.node.specs.Texts.{Line, Node, leaf-node, padding-node, inner-node}
 
@@ -21,6 +21,10 @@ bad-limits closing depth = ltb 20 depth || (ltb closing 1 || ltb 9999 closing)
 -- the place of node n of a height: the root's is 1, and below place i stand 2i and 2i + 1
 abbrev pub place : ℕ → ℕ → ℕ → ℕ
 place depth height n = 2 ^ (depth - height) + n
+
+-- all balances of a ledger joined
+abbrev pub balances-total : Kind → List Line → List ℕ
+balances-total k lines = total k (map (λ (l : Line). l .balance) lines)
 
 -- Line n of a ledger is leaf n of its tree, and the leaves with no line are padding.
 module _ (k : Kind) (h : Hash) (closing : ℕ) (lines : List Line) where

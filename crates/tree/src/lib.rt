@@ -10,7 +10,7 @@ ghost use lib.Dec.{leb, ltb};
 ghost use Rattle.refusal.specs.declared.cases.Refusal.the-variants.{JoinUnwritable};
 ghost use Rattle.refusal.specs.Tables.{_⇒_, first, Answers};
 ghost use Rattle.node.specs.Meant.{node-of, lines-of};
-ghost use Rattle.tree.specs.Trees.{node-at, node-refusal, bad-limits};
+ghost use Rattle.tree.specs.Trees.{balances-total, node-at, node-refusal, bad-limits};
 use amount::Amount;
 use digest::Digest;
 use node::inner;
@@ -83,7 +83,8 @@ fn no_node(depth: u32, height: u32, n: u32) -> bool
     height > depth || n >= leaf_count(depth - height)
 }
 
-// Node n of a height in the tree of a ledger, from its lines alone; the root is node 0 of the height that is the depth.
+// Node n of a height in the tree of a ledger, from its lines alone; the root is node 0 of the height that is the depth,
+// and its amount is all balances joined.
 pub fn tree_node<A: Amount, D: Digest>(
     digest: &D,
     closing: Closing,
@@ -94,7 +95,8 @@ pub fn tree_node<A: Amount, D: Digest>(
 ) -> Result<Node<A>, Refusal>
     ensures { λ r. ⌜ Answers r
         (node-refusal kind (D·Digest .hash (now (digest .entry))) (closing .0) (lines-of meaning (now (lines .entry))) depth height n)
-        (λ x. node-of meaning x ≡ node-at kind (D·Digest .hash (now (digest .entry))) (closing .0) (lines-of meaning (now (lines .entry))) height n) ⌝ }
+        (λ x. (node-of meaning x ≡ node-at kind (D·Digest .hash (now (digest .entry))) (closing .0) (lines-of meaning (now (lines .entry))) height n)
+            × (height ≡ depth → meaning (x .amount) ≡ balances-total kind (lines-of meaning (now (lines .entry))))) ⌝ }
 {
     if bad_limits(closing, depth) {
         return Err(Refusal::BadLimits);
