@@ -3,3 +3,4 @@ pub mod Climbs
 pub mod Shapes
 pub mod Under
 pub mod Whole
+pub mod Back
