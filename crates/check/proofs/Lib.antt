@@ -4,3 +4,4 @@ pub mod Shapes
 pub mod Under
 pub mod Whole
 pub mod Back
+pub mod Passing
