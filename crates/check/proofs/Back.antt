@@ -146,5 +146,15 @@ module _ (k : Kind) (laws : Laws k) where
     file-long =
         let steps = steps-bytes k (f .steps) in
         let b = k .bytes (f .line .balance) in
-        omega (arith, length-append (be 4 (f .leaf)) (f .line .customer ++ (f .line .salt ++ (b ++ steps))), be-length 4 (f .leaf), length-append (f .line .customer) (f .line .salt ++ (b ++ steps)), fits .customer-long,
-        length-append (f .line .salt) (b ++ steps), fits .salt-long, length-append b steps, wide, steps-long (f .steps) (fits .steps-sound))
+        omega (
+          arith,
+          length-append (be 4 (f .leaf)) (f .line .customer ++ (f .line .salt ++ (b ++ steps))),
+          be-length 4 (f .leaf),
+          length-append (f .line .customer) (f .line .salt ++ (b ++ steps)),
+          fits .customer-long,
+          length-append (f .line .salt) (b ++ steps),
+          fits .salt-long,
+          length-append b steps,
+          wide,
+          steps-long (f .steps) (fits .steps-sound),
+        )

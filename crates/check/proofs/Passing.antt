@@ -11,10 +11,12 @@ use lib.ListN.{length, getD, take, drop}
 use Rattle.std.specs.shelf.Maps.{nth}
 use Rattle.std.specs.declared.option.Option.{Option}
 use Rattle.std.specs.declared.option.Option.the-variants.{Some, None}
-use Rattle.std.proofs.shelf.Lists.{take-at}
+use Rattle.std.specs.Results.{OkBy}
+use Rattle.std.specs.declared.result.Result.{Result}
+use Rattle.std.specs.declared.result.Result.the-variants.{Ok, Err}
 use Rattle.refusal.specs.declared.cases.Refusal.{Refusal}
 use Rattle.refusal.specs.declared.cases.Refusal.the-variants.{BadLimits, FileLength, OtherSheet, LeafOutside, JoinUnwritable, RootDiffers}
-use Rattle.refusal.specs.Tables.{_⇒_, first}
+use Rattle.refusal.specs.Tables.{_⇒_, first, Answers}
 use Rattle.bytes.specs.Tests.{same}
 use Rattle.bytes.proofs.Passes.{true-T, T-true, false-T, same-refl, eqb-in}
 use Rattle.amount.specs.Kinds.{Kind, Laws}
@@ -22,13 +24,14 @@ use Rattle.digest.specs.Hashes.{Hash, HashLaws}
 use Rattle.node.specs.Texts.{Line, Node, node-bytes, leaf-text, padding-text, inner-text, inner-node}
 use Rattle.tree.specs.Trees.{bad-limits, leaf-at, node-at}
 use Rattle.tree.proofs.Subtrees.{left-below, right-below, shallow}
+use Rattle.tree.proofs.Totals.{root-total}
 use Rattle.sheet.specs.Layout.{Sheet, head, sheet-bytes, sheet-refusal, read-sheet}
 use Rattle.sheet.proofs.Back.{reads-back}
 use Rattle.file.specs.Layout.{File, file-bytes, file-length}
 use Rattle.file.specs.Fields.{offset-at, step-index}
-use Rattle.file.specs.Ledgers.{beside, ledger-sheet, steps-beside, line-file}
+use Rattle.file.specs.Ledgers.{Ledger, beside, ledger-sheet, steps-beside, line-file}
 use Rattle.check.specs.Paths.{file-of, step-at, path-node}
-use Rattle.check.specs.Checks.{or-else, first-from, join-refusal-at, joins-refusal, shape-refusal, top-refusal, amounts-refusal, file-refusal, under-refusal, under, check-refusal}
+use Rattle.check.specs.Checks.{or-else, first-from, join-refusal-at, joins-refusal, shape-refusal, top-refusal, amounts-refusal, file-refusal, under-refusal, under, check-refusal, leaf-place}
 use Rattle.check.proofs.Back.{Fits, sound-node, sound-nodes, file-back, amounts-pass, file-long}
 
 -- both nodes below node m / 2
@@ -197,15 +200,53 @@ module _ {k : Kind} (laws : Laws k) (h : Hash) (hashes : HashLaws h) (closing : 
           steps-sound = steps-sound depth 0 (add-zero depth);
         }
 
-        pub passes : check-refusal k h (sheet-bytes k h (ledger-sheet k h closing lines depth)) (file-bytes k h closing depth (line-file k h closing lines depth n l)) ≡ None
+        said : file-of k depth (file-bytes k h closing depth (line-file k h closing lines depth n l)) ≡ line-file k h closing lines depth n l
+        said =
+            let f = line-file k h closing lines depth n l in
+            subst (λ d. file-of k d (file-bytes k h closing d f) ≡ f) (steps-count depth 0) (file-back k laws h closing f fits)
+
+        read : read-sheet k h (sheet-bytes k h (ledger-sheet k h closing lines depth)) ≡ Some (ledger-sheet k h closing lines depth)
+        read = reads-back k laws h (ledger-sheet k h closing lines depth) (node-digest depth 0) whole good .1
+
+        passes : check-refusal k h (sheet-bytes k h (ledger-sheet k h closing lines depth)) (file-bytes k h closing depth (line-file k h closing lines depth n l)) ≡ None
         passes =
             let f = line-file k h closing lines depth n l in
             let t = ledger-sheet k h closing lines depth in
             let s = file-bytes k h closing depth f in
             let count : length (f .steps) ≡ depth = steps-count depth 0 in
             let long : length s ≡ file-length (k .width) depth = subst (λ d. length (file-bytes k h closing d f) ≡ file-length (k .width) d) count (file-long k laws h closing f fits) in
-            let said : file-of k depth s ≡ f = subst (λ d. file-of k d (file-bytes k h closing d f) ≡ f) count (file-back k laws h closing f fits) in
             let amounts : amounts-refusal k depth s ≡ None = subst (λ d. amounts-refusal k d (file-bytes k h closing d f) ≡ None) count (amounts-pass k laws h closing f fits) in
             let back = reads-back k laws h t (node-digest depth 0) whole good in
             neither _ _ (back .0) (ap (λ o. under k h o s) (back .1)
             ∙ unrefused k h t s f (shallow depth closing good) long refl said inside amounts joins-pass top-is)
+
+nth-inside : (lines : List Line) (n : ℕ) (l : Line) → nth lines n ≡ Some l → n < length lines
+nth-inside [] n l e = absurd (let z : _≡_ {A = ℕ} 0 1 = cc in omega arith)
+nth-inside (x ∷ lines) zero l e = omega arith
+nth-inside (x ∷ lines) (suc n) l e = let i = nth-inside lines n l e in omega arith
+
+-- what a call answers that is not refused
+pub answered : {X : Type 0} (place : X → ℕ) (k : Kind) → Laws k → (h : Hash) → HashLaws h → (sheet file : List ℕ) (r : Result X Refusal)
+    → Answers r (check-refusal k h sheet file) (λ p. (t : Sheet) → read-sheet k h sheet ≡ Some t → (place p ≡ leaf-place k t file) × T (k .under (file-of k (t .depth) file .line .balance) (t .root .amount)) × (file-bytes k h (t .closing) (t .depth) (file-of k (t .depth) file) ≡ file))
+    → (closing depth n : ℕ) (lines : List Line) (l : Line) → Ledger k closing depth lines → nth lines n ≡ Some l
+    → sheet ≡ sheet-bytes k h (ledger-sheet k h closing lines depth) → file ≡ file-bytes k h closing depth (line-file k h closing lines depth n l)
+    → OkBy r (λ p. place p ≡ 2 ^ depth + n)
+answered {X = X} place k laws h hashes sheet file r a closing depth n lines l ledger is p q =
+    let fit : (m : ℕ) (x : Line) → nth lines m ≡ Some x → T (k .writable (x .balance)) = λ m x e. ledger .lines-fit m x e .balance-writable in
+    let inside : n < 2 ^ depth = (let i = nth-inside lines n l is in let j = ledger .lines-few in omega arith) in
+    let whole : T (k .writable (node-at k h closing lines depth 0 .amount)) =
+    subst (λ m. T (k .writable m)) (sym (root-total laws h closing lines fit depth (ledger .lines-few))) (ledger .total-writable) in
+    let one = ledger .lines-fit n l is in
+    let none = passes laws h hashes closing lines fit depth n l is inside whole (ledger .limits-good) (one .customer-long) (one .salt-long) in
+    let back = read laws h hashes closing lines fit depth n l is inside whole (ledger .limits-good) (one .customer-long) (one .salt-long) in
+    let says = said laws h hashes closing lines fit depth n l is inside whole (ledger .limits-good) (one .customer-long) (one .salt-long) in
+    let none-here : check-refusal k h sheet file ≡ None = ap (λ x. check-refusal k h x file) p ∙ ap (check-refusal k h (sheet-bytes k h (ledger-sheet k h closing lines depth))) q ∙ none in
+    let back-here : read-sheet k h sheet ≡ Some (ledger-sheet k h closing lines depth) = ap (read-sheet k h) p ∙ back in
+    let leaf-here : leaf-place k (ledger-sheet k h closing lines depth) file ≡ 2 ^ depth + n = ap (λ x. 2 ^ depth + file-of k depth x .leaf) q ∙ ap (λ x. 2 ^ depth + x .leaf) says in
+    which r a none-here back-here leaf-here
+  where
+    which : (r : Result X Refusal) → Answers r (check-refusal k h sheet file) (λ p. (t : Sheet) → read-sheet k h sheet ≡ Some t → (place p ≡ leaf-place k t file) × T (k .under (file-of k (t .depth) file .line .balance) (t .root .amount)) × (file-bytes k h (t .closing) (t .depth) (file-of k (t .depth) file) ≡ file))
+        → check-refusal k h sheet file ≡ None → read-sheet k h sheet ≡ Some (ledger-sheet k h closing lines depth) → leaf-place k (ledger-sheet k h closing lines depth) file ≡ 2 ^ depth + n
+        → OkBy r (λ p. place p ≡ 2 ^ depth + n)
+    which (Ok x) a none back leaf = a .1 (ledger-sheet k h closing lines depth) back .0 ∙ leaf
+    which (Err e) a none back leaf = absurd (let b : _≡_ {A = Option Refusal} None (Some e) = sym none ∙ a in let z : _≡_ {A = ℕ} 0 1 = cc in omega arith)

@@ -16,11 +16,14 @@ ghost use Rattle.file.specs.Layout.{file-bytes, file-length};
 ghost use Rattle.file.specs.Fields.{Is-field};
 ghost use Rattle.check.specs.Paths.{file-of, path-node};
 ghost use Rattle.check.specs.Checks.{shape-refusal, field-refusal, amounts-refusal, join-refusal-at, joins-refusal, top-refusal, file-refusal, under-refusal, check-refusal, leaf-place};
-ghost use Rattle.sheet.specs.Layout.{Sheet as SheetSaid, read-sheet};
+ghost use Rattle.sheet.specs.Layout.{Sheet as SheetSaid, read-sheet, sheet-bytes};
+ghost use Rattle.std.specs.Results.{OkBy};
+ghost use Rattle.std.specs.shelf.Maps.{nth};
+ghost use Rattle.file.specs.Ledgers.{Ledger, ledger-sheet, line-file};
 ghost use Rattle.check.specs.Walks.{Walks};
 ghost use Rattle.amount.specs.Kinds.{join-refusal};
 ghost use Rattle.bytes.specs.Tests.{same};
-ghost use Rattle.node.specs.Texts.{inner-node, node-bytes};
+ghost use Rattle.node.specs.Texts.{Line as LineSaid, inner-node, node-bytes};
 ghost use Rattle.node.specs.Meant.{node-of};
 ghost use Rattle.file.specs.Fields.{field-bytes, length-at};
 
@@ -301,13 +304,18 @@ pub fn check_file<A: Amount, D: Digest>(
 }
 
 // The customer's check: a file under a sheet, both as bytes of any length and content. Where it passes, the balance in the
-// file is under the total on the sheet, and the file has exactly the bytes of what it says.
+// file is under the total on the sheet, and the file has exactly the bytes of what it says. The file of every line of a
+// ledger passes under that ledger's sheet.
 pub fn check<A: Amount, D: Digest>(digest: &D, sheet: &[u8], file: &[u8]) -> Result<Place, Refusal>
-    ensures { λ r. ⌜ Answers r (check-refusal kind (D·Digest .hash (now (digest .entry))) (now (sheet .entry)) (now (file .entry)))
+    ensures answers { λ r. ⌜ Answers r (check-refusal kind (D·Digest .hash (now (digest .entry))) (now (sheet .entry)) (now (file .entry)))
         (λ p. ((s : SheetSaid) → read-sheet kind (D·Digest .hash (now (digest .entry))) (now (sheet .entry)) ≡ Some s
         → (p .0 ≡ leaf-place kind s (now (file .entry)))
         × T (kind .under (file-of kind (s .depth) (now (file .entry)) .line .balance) (s .root .amount))
         × (file-bytes kind (D·Digest .hash (now (digest .entry))) (s .closing) (s .depth) (file-of kind (s .depth) (now (file .entry))) ≡ now (file .entry)))) ⌝ }
+    ensures own { λ r. ⌜ ((closing depth n : ℕ) (lines : List LineSaid) (l : LineSaid) → Ledger kind closing depth lines → nth lines n ≡ Some l
+        → now (sheet .entry) ≡ sheet-bytes kind (D·Digest .hash (now (digest .entry))) (ledger-sheet kind (D·Digest .hash (now (digest .entry))) closing lines depth)
+        → now (file .entry) ≡ file-bytes kind (D·Digest .hash (now (digest .entry))) closing depth (line-file kind (D·Digest .hash (now (digest .entry))) closing lines depth n l)
+        → OkBy r (λ p. p .0 ≡ 2 ^ depth + n)) ⌝ }
 {
     let read = sheet::read::<A, D>(digest, sheet)?;
     check_file(digest, &read, file)

@@ -74,12 +74,17 @@ module _ {k : Kind} (laws : Laws k) where
         → Answers r why (λ x. f x ≡ node-at k h closing lines height n)
         → Answers r why (λ x. (f x ≡ node-at k h closing lines height n) × (height ≡ depth → f x .amount ≡ balances-total k lines))
     at-root f (Err e) why depth height n few o a = a
-    at-root f (Ok x) why depth height n few o a =
-        (a .0, (a .1, λ is.
-        let b : n < 2 ^ (depth - height) = nleb→lt (2 ^ (depth - height)) n (not-T (leb (2 ^ (depth - height)) n) (either (ltb depth height) (leb (2 ^ (depth - height)) n) o .1)) in
-        let d : depth - height ≡ 0 = omega arith in
-        let first : n ≡ 0 = (let u : n < 2 ^ 0 = subst (λ m. n < 2 ^ m) d b in omega arith) in
-        ap (λ m. m .amount) (a .1)
-        ∙ ap (λ m. node-at k h closing lines m n .amount) is
-        ∙ ap (λ m. node-at k h closing lines depth m .amount) first
-        ∙ root-total depth (nltb→le (2 ^ depth) (length lines) (not-T (ltb (2 ^ depth) (length lines)) (λ t. subst T few t)))))
+    at-root f (Ok x) why depth height n few o a = (
+      a .0,
+      (
+        a .1,
+        λ is.
+            let b : n < 2 ^ (depth - height) = nleb→lt (2 ^ (depth - height)) n (not-T (leb (2 ^ (depth - height)) n) (either (ltb depth height) (leb (2 ^ (depth - height)) n) o .1)) in
+            let d : depth - height ≡ 0 = omega arith in
+            let first : n ≡ 0 = (let u : n < 2 ^ 0 = subst (λ m. n < 2 ^ m) d b in omega arith) in
+            ap (λ m. m .amount) (a .1)
+            ∙ ap (λ m. node-at k h closing lines m n .amount) is
+            ∙ ap (λ m. node-at k h closing lines depth m .amount) first
+            ∙ root-total depth (nltb→le (2 ^ depth) (length lines) (not-T (ltb (2 ^ depth) (length lines)) (λ t. subst T few t))),
+      ),
+    )

@@ -96,7 +96,7 @@ pub fn tree_node<A: Amount, D: Digest>(
     ensures { λ r. ⌜ Answers r
         (node-refusal kind (D·Digest .hash (now (digest .entry))) (closing .0) (lines-of meaning (now (lines .entry))) depth height n)
         (λ x. (node-of meaning x ≡ node-at kind (D·Digest .hash (now (digest .entry))) (closing .0) (lines-of meaning (now (lines .entry))) height n)
-            × (height ≡ depth → meaning (x .amount) ≡ balances-total kind (lines-of meaning (now (lines .entry))))) ⌝ }
+        × (height ≡ depth → meaning (x .amount) ≡ balances-total kind (lines-of meaning (now (lines .entry))))) ⌝ }
 {
     if bad_limits(closing, depth) {
         return Err(Refusal::BadLimits);
