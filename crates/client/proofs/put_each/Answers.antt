@@ -19,8 +19,8 @@ loop-i-init g c =
       omega (arith, missing_le m c.args.closing.0 c.args.n, c.requires.room),
     )
 
-pub must-put-requires : goal.must-put-requires
-must-put-requires g c =
+pub must_put-requires : goal.must_put-requires
+must_put-requires g c =
     let m : Meaning = g.S.NodeStore.meaning c.args.store.now in
     let k : Meaning = g.S.NodeStore.meaning c.loop-i.store in
     let f = c.loop-i.invariant.1 in
@@ -36,12 +36,12 @@ pub loop-i-preserved : goal.loop-i-preserved
 loop-i-preserved g c =
     let m : Meaning = g.S.NodeStore.meaning c.args.store.now in
     let k : Meaning = g.S.NodeStore.meaning c.loop-i.store in
-    let n : Meaning = g.S.NodeStore.meaning c.must-put.new.store in
+    let n : Meaning = g.S.NodeStore.meaning c.must_put.new.store in
     let f = c.loop-i.invariant.1 in
     let t = turn m k c.args.closing.0 c.args.n c.loop-i.i c.args.bytes.now f (span_out m.first m.last c.args.closing.0 c.requires.within) c.requires.below c.loop-i-test.true in (
-      c.must-put.ensures.keeps,
-      filled_more m k n c.args.closing.0 c.loop-i.i c.args.bytes.now f c.must-put.ensures.is,
-      omega (arith, put_missing k n c.args.closing.0 (c.loop-i.i + 1) c.args.bytes.now t c.must-put.ensures.is c.args.n (omega arith), c.loop-i.invariant.2),
+      c.must_put.ensures.keeps,
+      filled_more m k n c.args.closing.0 c.loop-i.i c.args.bytes.now f c.must_put.ensures.is,
+      omega (arith, put_missing k n c.args.closing.0 (c.loop-i.i + 1) c.args.bytes.now t c.must_put.ensures.is c.args.n (omega arith), c.loop-i.invariant.2),
     )
 
 pub returns : goal.returns

@@ -4,11 +4,11 @@ use Rattle.std.proofs.lemmas.Bool.{cases_eq}
 use Rattle.flat_theory.proofs.Slots.{next_slot}
 use Rattle.flat.proofs.clear_marks.Goals as goal
 
-pub index-mut-requires : goal.index-mut-requires
-index-mut-requires c = omega (arith, next_slot c.loop-i.-i c.args.n c.args.step c.loop-i-test.true)
+pub index_mut-requires : goal.index_mut-requires
+index_mut-requires c = omega (arith, next_slot c.loop-i.-i c.args.n c.args.step c.loop-i-test.true)
 
-pub overflow-add-at : goal.overflow-add-at
-overflow-add-at c = omega (arith, next_slot c.loop-i.-i c.args.n c.args.step c.loop-i-test.true, c.args.memory.now.ok.1, c.args.memory.now.small)
+pub overflow_add-at : goal.overflow_add-at
+overflow_add-at c = omega (arith, next_slot c.loop-i.-i c.args.n c.args.step c.loop-i-test.true, c.args.memory.now.ok.1, c.args.memory.now.small)
 
 pub loop-i-preserved : goal.loop-i-preserved
 loop-i-preserved c =

@@ -5,6 +5,6 @@ use Rattle.flat.proofs.copy_through.Goals as goal
 pub returns : goal.returns
 returns c =
     let n = length c.args.bytes.now in
-    let first = c.copy-from-slice.ensures.after in
+    let first = c.copy_from_slice.ensures.after in
     let whole : n - 0 ≡ n = omega arith in
-    c.copy-from-slice-2.ensures.after ∙ take_at c.copy-from-slice.new.self _ _ (ap length first ∙ sym whole) ∙ first
+    c.copy_from_slice-2.ensures.after ∙ take_at c.copy_from_slice.new.self _ _ (ap length first ∙ sym whole) ∙ first

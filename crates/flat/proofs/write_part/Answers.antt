@@ -8,5 +8,5 @@ pub returns : goal.returns
 unfolding patch
 returns c =
     let bs = c.args.bytes.now in
-    put_mid-paste _ _ c.args.memory.now _ bs (length bs) c.copy-through.ensures (omega arith) refl
+    put_mid-paste _ _ c.args.memory.now _ bs (length bs) c.copy_through.ensures (omega arith) refl
     ∙ paste_all c.args.memory.now c.args.at bs (length bs) refl

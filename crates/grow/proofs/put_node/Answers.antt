@@ -15,7 +15,7 @@ returns g c =
     let p = c.args.key.place.0 in
     let said = node_bytes k (node_of g.A.Amount.meaning c.args.node.now) in
     let w = c.in-Ok.ensures.answers.1 in
-    let e : take c.in-Ok.n c.write-node.new.out ≡ said = ap (take c.in-Ok.n) w.2 ∙ front said _ c.in-Ok.n w.1 in
+    let e : take c.in-Ok.n c.write_node.new.out ≡ said = ap (take c.in-Ok.n) w.2 ∙ front said _ c.in-Ok.n w.1 in
     record {
       keeps = c.keep.ensures.keeps;
       is = λ none. subst (Put m n x p) e (c.keep.ensures.is (ap (put_refusal m x p) (ap length e ∙ sym w.1 ∙ w.0) ∙ none));

@@ -8,7 +8,7 @@ returns-then-bytes-lt32 g c = short g.met.A.Amount.lawful c.args.bytes.now c.if-
 pub returns-in-Ok : goal.returns-in-Ok
 returns-in-Ok g c =
     let s = c.args.bytes.now in
-    good g.A.Amount.kind s (take (length s - 32) (drop 32 s)) c.copy-from-slice.new.self (g.A.Amount.meaning c.in-Ok.amount) (rest_is s) c.copy-from-slice.ensures.after c.in-Ok.ensures.1
+    good g.A.Amount.kind s (take (length s - 32) (drop 32 s)) c.copy_from_slice.new.self (g.A.Amount.meaning c.in-Ok.amount) (rest_is s) c.copy_from_slice.ensures.after c.in-Ok.ensures.1
 
 pub returns-in-Err : goal.returns-in-Err
 returns-in-Err g c =

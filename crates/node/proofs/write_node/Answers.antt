@@ -9,11 +9,11 @@ pub returns : goal.returns
 returns g c =
     let a = g.A.Amount in
     let out = c.args.out.now in
-    let d = c.copy-from-slice.new.self in
+    let d = c.copy_from_slice.new.self in
     let w = c.width-end.result in
     let m = a.meaning c.args.node.now.amount in
     let b = a.kind.bytes m in
-    let f = c.copy-from-slice.ensures.after in
+    let f = c.copy_from_slice.ensures.after in
     let lb : length b ≡ w = g.met.A.Amount.lawful.bytes_width m (g.met.A.Amount.sound c.args.node.now.amount) ∙ sym c.width-end.ensures in
     let part = take (32 + w - 32) (drop 32 (d ++ post_of 0 32 out)) in
     let lo : length part ≤ length b = simp length-take (omega arith) in

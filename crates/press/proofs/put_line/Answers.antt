@@ -9,9 +9,9 @@ pub returns : goal.returns
 returns g c = record {
   keeps = c.fetch.ensures.keeps;
   same = c.fetch.ensures.same;
-  long = c.put-part.ensures.long;
+  long = c.put_part.ensures.long;
   is = λ said o b l e f w.
       let m : Meaning = g.L.NodeStore.meaning c.args.leaves.now in
       let there = fetched_is m c.args.key.closing.0 c.args.key.place.0 _ (37 + g.A.Amount.kind.width) _ c.fetch.new.into b c.fetch.ensures.filled (search rules) f in
-      c.put-part.ensures.is said o l e ∙ ap (λ x. written (said ++ x) o) (rest c.fetch.new.into ∙ ap (drop 5) there);
+      c.put_part.ensures.is said o l e ∙ ap (λ x. written (said ++ x) o) (rest c.fetch.new.into ∙ ap (drop 5) there);
 }

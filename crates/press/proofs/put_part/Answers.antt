@@ -7,7 +7,7 @@ pub returns : goal.returns
 returns c = record {
   long = search rules;
   is = λ said o l e.
-      let b = c.copy-from-slice.ensures.after in
-      behind c.args.out.now said o c.copy-from-slice.new.self c.args.at (c.args.at + length c.args.part.now - c.args.at) l e (omega (arith, ap length b))
+      let b = c.copy_from_slice.ensures.after in
+      behind c.args.out.now said o c.copy_from_slice.new.self c.args.at (c.args.at + length c.args.part.now - c.args.at) l e (omega (arith, ap length b))
       ∙ ap (λ x. written (said ++ x) o) b;
 }

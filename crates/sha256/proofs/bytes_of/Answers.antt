@@ -13,7 +13,7 @@ pub loop-i-preserved : goal.loop-i-preserved
 loop-i-preserved c =
     let i = c.loop-i.i in
     let h : i < length c.args.h = search rules in
-    (same_len_mid (i * 4) (i * 4 + 4 - i * 4) c.loop-i.out c.copy-from-slice.new.self c.copy-from-slice.ensures.len ∙ c.loop-i.invariant.0, bytes_more c.loop-i.out c.args.h c.copy-from-slice.new.self i (i * 4 + 4 - i * 4) h (omega arith) (c.copy-from-slice.ensures.after ∙ c.to-be-bytes.ensures ∙ be_4 (get_or c.args.h i 0)) c.loop-i.invariant.1)
+    (same_len_mid (i * 4) (i * 4 + 4 - i * 4) c.loop-i.out c.copy_from_slice.new.self c.copy_from_slice.ensures.len ∙ c.loop-i.invariant.0, bytes_more c.loop-i.out c.args.h c.copy_from_slice.new.self i (i * 4 + 4 - i * 4) h (omega arith) (c.copy_from_slice.ensures.after ∙ c.to_be_bytes.ensures ∙ be_4 (get_or c.args.h i 0)) c.loop-i.invariant.1)
 
 pub returns : goal.returns
 returns c =

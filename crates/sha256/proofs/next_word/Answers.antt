@@ -9,7 +9,7 @@ unfolding next
 returns c s h =
     let w = c.args.w.now in
     let t = c.args.t in
-    let v = add (add c.small-sigma1.result (get_or w (t - 7) 0)) (add c.small-sigma0.result (get_or w (t - 16) 0)) in
+    let v = add (add c.small_sigma1.result (get_or w (t - 7) 0)) (add c.small_sigma0.result (get_or w (t - 16) 0)) in
     let e : v ≡ next w t = cc in
     let l : t < length w = search rules in
     scheduled_more w s t v (omega arith) l h e

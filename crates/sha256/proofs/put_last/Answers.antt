@@ -7,6 +7,6 @@ pub returns : goal.returns
 returns c =
     let e = c.args.end in
     let p = c.requires in
-    let q = last_is c.args.out.now c.args.rest.now c.copy-from-slice-2.new.self e (e - (e - 8)) c.args.size p.0 (omega arith) (omega arith)
-    (c.copy-from-slice-2.ensures.after ∙ c.to-be-bytes.ensures ∙ be_8 (c.args.size * 8 % 2 ^ 64) ∙ be_mod 8 (c.args.size * 8)) in
-    rw c.copy-from-slice.ensures.after q
+    let q = last_is c.args.out.now c.args.rest.now c.copy_from_slice-2.new.self e (e - (e - 8)) c.args.size p.0 (omega arith) (omega arith)
+    (c.copy_from_slice-2.ensures.after ∙ c.to_be_bytes.ensures ∙ be_8 (c.args.size * 8 % 2 ^ 64) ∙ be_mod 8 (c.args.size * 8)) in
+    rw c.copy_from_slice.ensures.after q

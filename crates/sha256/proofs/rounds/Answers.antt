@@ -9,7 +9,7 @@ loop-i-init c = refl
 pub loop-i-preserved : goal.loop-i-preserved
 loop-i-preserved c =
     let n : c.loop-i.i * 8 + 8 ≡ (c.loop-i.i + 1) * 8 = omega arith in
-    c.eight-rounds-next.ensures c.args.h c.loop-i.invariant ∙ ap (λ k. rounds k c.args.h c.args.w.now) n
+    c.eight_rounds-next.ensures c.args.h c.loop-i.invariant ∙ ap (λ k. rounds k c.args.h c.args.w.now) n
 
 pub returns : goal.returns
 returns c =

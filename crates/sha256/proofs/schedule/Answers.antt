@@ -22,8 +22,8 @@ loop-i-preserved c =
     let b = c.args.block.now in
     let i = c.loop-i.i in
     let n : 16 + i * 8 + 8 ≡ 16 + (i + 1) * 8 = omega arith in
-    let e = c.eight-words.ensures b c.loop-i.invariant.1 in
-    (c.eight-words.array_long, scheduled_at c.eight-words.new.w b (16 + i * 8 + 8) (16 + (i + 1) * 8) n e)
+    let e = c.eight_words.ensures b c.loop-i.invariant.1 in
+    (c.eight_words.array_long, scheduled_at c.eight_words.new.w b (16 + i * 8 + 8) (16 + (i + 1) * 8) n e)
 
 pub returns : goal.returns
 unfolding schedule

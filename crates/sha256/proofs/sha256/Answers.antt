@@ -27,7 +27,7 @@ returns-then-rest-lt56 c =
     let h : c.loop-i.h ≡ chaining (length s / 64) s = c.loop-i.invariant ∙ ap (λ k. chaining k s) i in
     let e = c.last-block.ensures ∙ ap (λ x. x ++ ending (64 - 9 - length x) (length s)) (rest_is s (length s / 64 * 64)) in
     let small : length s % 64 < 56 = omega (arith, ap length (rest_is s (length s / 64 * 64)), length-drop (length s / 64 * 64) s) in
-    c.bytes-of.ensures ∙ ap bytes c.compress.ensures ∙ ends_one s c.loop-i.h (take 64 c.last-block.result) small h e
+    c.bytes_of.ensures ∙ ap bytes c.compress.ensures ∙ ends_one s c.loop-i.h (take 64 c.last-block.result) small h e
 
 pub returns-else-rest-lt56 : goal.returns-else-rest-lt56
 returns-else-rest-lt56 c =
@@ -37,6 +37,6 @@ returns-else-rest-lt56 c =
     let l : length c.last-blocks.result ≤ 128 = search rules in
     let e = sym (take_all 128 c.last-blocks.result l) ∙ c.last-blocks.ensures ∙ ap (λ x. x ++ ending (128 - 9 - length x) (length s)) (rest_is s (length s / 64 * 64)) in
     let large : 56 ≤ length s % 64 = omega (arith, ap length (rest_is s (length s / 64 * 64)), length-drop (length s / 64 * 64) s) in
-    c.bytes-of-else-rest-lt56.ensures ∙ ap bytes c.compress-else-rest-lt56.ensures
+    c.bytes_of-else-rest-lt56.ensures ∙ ap bytes c.compress-else-rest-lt56.ensures
     ∙ ap (λ x. bytes (compress x (take 64 (drop 64 c.last-blocks.result)))) c.compress-one.ensures
     ∙ ends_two s c.loop-i.h c.last-blocks.result large h e

@@ -15,18 +15,18 @@ returns g c =
     let a = g.A.Amount in
     let s = c.args.sheet.now in
     let out = c.args.out.now in
-    let f = c.copy-from-slice.new.self in
+    let f = c.copy_from_slice.new.self in
     let w = c.width-end.result in
     let b = node_bytes a.kind (node_of a.meaning s.root) in
     let hd = head a.kind (g.D.Digest.hash c.args.digest.now) s.closing.0 s.depth in
-    let e : f ≡ hd = c.copy-from-slice.ensures.after ∙ c.head.ensures in
+    let e : f ≡ hd = c.copy_from_slice.ensures.after ∙ c.head.ensures in
     let lb : length b ≡ 32 + w = sym c.in-Ok.ensures.answers.1.1 ∙ c.in-Ok.ensures.answers.1.0 ∙ ap (λ x. 32 + x) (sym c.width-end.ensures) in
     let part = take (39 + w - 7) (drop 7 (f ++ post_of 0 7 out)) in
     let lo : length part ≤ length b = simp length-take (omega arith) in
-    let n : c.write-node.new.out ≡ b = c.in-Ok.ensures.answers.1.2 ∙ written_all b part lo in
-    let k : 39 + w - 7 ≡ length c.write-node.new.out = omega (arith, ap length n) in
-    let p = two_parts out f c.write-node.new.out 7 (39 + w - 7) (ap length e) k
-    ∙ ap (λ x. written (x ++ c.write-node.new.out) out) e ∙ ap (λ x. written (hd ++ x) out) n in
+    let n : c.write_node.new.out ≡ b = c.in-Ok.ensures.answers.1.2 ∙ written_all b part lo in
+    let k : 39 + w - 7 ≡ length c.write_node.new.out = omega (arith, ap length n) in
+    let p = two_parts out f c.write_node.new.out 7 (39 + w - 7) (ap length e) k
+    ∙ ap (λ x. written (x ++ c.write_node.new.out) out) e ∙ ap (λ x. written (hd ++ x) out) n in
     let laws = g.met.A.Amount.lawful in
     let wide = laws.bytes_width (a.meaning s.root.amount) (g.met.A.Amount.sound s.root.amount) in
     let ld : length s.root.digest ≡ 32 = omega (arith, length-append s.root.digest (a.kind.bytes (a.meaning s.root.amount)), lb, wide, c.width-end.ensures) in

@@ -5,27 +5,27 @@ use Rattle.tree.proofs.Subtrees.{many, few, has_node, shallow, nth_each}
 use Rattle.tree.proofs.Totals.{at_root}
 use Rattle.tree.proofs.tree_node.Goals as goal
 
-pub returns-then-lines-leaf-count : goal.returns-then-lines-leaf-count
-returns-then-lines-leaf-count g c =
-    let b : bad_limits c.args.closing.0 c.args.depth ≡ false = sym c.if-bad-limits.ensures in
-    let m = many (line_of g.A.Amount.meaning) c.args.lines.now c.leaf-count.result c.args.depth (c.leaf-count.ensures.leaves (shallow c.args.depth c.args.closing.0 (sym c.if-bad-limits.ensures))) c.if-lines-leaf-count.true in
+pub returns-then-lines-leaf_count : goal.returns-then-lines-leaf_count
+returns-then-lines-leaf_count g c =
+    let b : bad_limits c.args.closing.0 c.args.depth ≡ false = sym c.if-bad_limits.ensures in
+    let m = many (line_of g.A.Amount.meaning) c.args.lines.now c.leaf_count.result c.args.depth (c.leaf_count.ensures.leaves (shallow c.args.depth c.args.closing.0 (sym c.if-bad_limits.ensures))) c.if-lines-leaf_count.true in
     rw (b, m)
 
-pub returns-then-no-node : goal.returns-then-no-node
-returns-then-no-node g c =
-    let b : bad_limits c.args.closing.0 c.args.depth ≡ false = sym c.if-bad-limits.ensures in
-    let m = few (line_of g.A.Amount.meaning) c.args.lines.now c.leaf-count.result c.args.depth (c.leaf-count.ensures.leaves (shallow c.args.depth c.args.closing.0 (sym c.if-bad-limits.ensures))) c.if-lines-leaf-count.false in
-    let o : ltb c.args.depth c.args.height || leb (2 ^ (c.args.depth - c.args.height)) c.args.n ≡ true = sym c.if-no-node.ensures in
+pub returns-then-no_node : goal.returns-then-no_node
+returns-then-no_node g c =
+    let b : bad_limits c.args.closing.0 c.args.depth ≡ false = sym c.if-bad_limits.ensures in
+    let m = few (line_of g.A.Amount.meaning) c.args.lines.now c.leaf_count.result c.args.depth (c.leaf_count.ensures.leaves (shallow c.args.depth c.args.closing.0 (sym c.if-bad_limits.ensures))) c.if-lines-leaf_count.false in
+    let o : ltb c.args.depth c.args.height || leb (2 ^ (c.args.depth - c.args.height)) c.args.n ≡ true = sym c.if-no_node.ensures in
     rw (b, m, o)
 
 pub subtree-requires : goal.subtree-requires
-subtree-requires g c = has_node c.args.depth c.args.height c.args.n c.args.closing.0 (sym c.if-bad-limits.ensures) (sym c.if-no-node.ensures)
+subtree-requires g c = has_node c.args.depth c.args.height c.args.n c.args.closing.0 (sym c.if-bad_limits.ensures) (sym c.if-no_node.ensures)
 
 pub returns : goal.returns
 returns g c =
-    let b : bad_limits c.args.closing.0 c.args.depth ≡ false = sym c.if-bad-limits.ensures in
-    let m = few (line_of g.A.Amount.meaning) c.args.lines.now c.leaf-count.result c.args.depth (c.leaf-count.ensures.leaves (shallow c.args.depth c.args.closing.0 (sym c.if-bad-limits.ensures))) c.if-lines-leaf-count.false in
-    let o : ltb c.args.depth c.args.height || leb (2 ^ (c.args.depth - c.args.height)) c.args.n ≡ false = sym c.if-no-node.ensures in
+    let b : bad_limits c.args.closing.0 c.args.depth ≡ false = sym c.if-bad_limits.ensures in
+    let m = few (line_of g.A.Amount.meaning) c.args.lines.now c.leaf_count.result c.args.depth (c.leaf_count.ensures.leaves (shallow c.args.depth c.args.closing.0 (sym c.if-bad_limits.ensures))) c.if-lines-leaf_count.false in
+    let o : ltb c.args.depth c.args.height || leb (2 ^ (c.args.depth - c.args.height)) c.args.n ≡ false = sym c.if-no_node.ensures in
     let a = g.A.Amount in
     let lawful = g.met.A.Amount in
     let xs = c.args.lines.now in

@@ -23,17 +23,17 @@ judge-requires g c =
     let b = offset_small f.width f.index f.narrow.0 (omega (arith, f.narrow, o.0)) in
     omega (arith, b, o.2.offset_is)
 
-pub returns-in-err-judge : goal.returns-in-err-judge
-returns-in-err-judge g c =
+pub returns-in_err-judge : goal.returns-in_err-judge
+returns-in_err-judge g c =
     let k = g.A.Amount.kind in
     let s = c.args.file.now in
     let f = c.loop-found.fields in
     let o = c.in-Some.ensures.found in
     let v = c.loop-found.invariant in
-    let e = c.in-err-judge.field-0.0 in
+    let e = c.in_err-judge.field-0.0 in
     let is = same_field f.width k.width f.file.now s f.index c.in-Some.found v.1 v.0 o.2 in
-    handed_on c.from-residual.result _ _ e c.from-residual.ensures.1
-    (v.3 ∙ fields_stop (field_refusal k s) f.count f.index o.0 e (c.in-err-judge.ensures s f.index is))
+    handed_on c.from_residual.result _ _ e c.from_residual.ensures.1
+    (v.3 ∙ fields_stop (field_refusal k s) f.count f.index o.0 e (c.in_err-judge.ensures s f.index is))
 
 pub loop-found-preserved : goal.loop-found-preserved
 loop-found-preserved g c =
@@ -45,7 +45,7 @@ loop-found-preserved g c =
     let o = a.found in
     let v = c.loop-found.invariant in
     let is = same_field f.width k.width f.file.now s f.index c.in-Some.found v.1 v.0 o.2 in
-    let d = (c.in-ok-judge.ensures s f.index is).0 in (
+    let d = (c.in_ok-judge.ensures s f.index is).0 in (
       a.file ∙ v.0,
       a.width ∙ v.1,
       a.count ∙ v.2,
@@ -57,4 +57,4 @@ pub returns : goal.returns
 returns g c =
     let k = g.A.Amount.kind in
     let f = c.loop-found.fields in
-    (c.loop-found.invariant.3 ∙ fields_done (field_refusal k c.args.file.now) f.count f.index c.in-default.ensures.found.0, tt)
+    (c.loop-found.invariant.3 ∙ fields_done (field_refusal k c.args.file.now) f.count f.index c.in_default.ensures.found.0, tt)

@@ -31,8 +31,8 @@ walk-requires g c =
     let o = c.in-Some.ensures.found in
     omega (arith, c.loop-found.invariant.3.height_is, c.loop-found.invariant.2, o.0, c.requires.deep)
 
-pub returns-in-err-next : goal.returns-in-err-next
-returns-in-err-next g c =
+pub returns-in_err-next : goal.returns-in_err-next
+returns-in_err-next g c =
     let k = g.A.Amount.kind in
     let h = g.D.Digest.hash c.args.digest.now in
     let s = c.args.file.now in
@@ -40,14 +40,14 @@ returns-in-err-next g c =
     let f = c.loop-found.fields in
     let o = c.in-Some.ensures.found in
     let v = c.loop-found.invariant in
-    let e = c.in-err-next.field-0.0 in
+    let e = c.in_err-next.field-0.0 in
     let below : f.index < 4 + d = omega (arith, o.0, v.2) in
     let is = same_field f.width k.width f.file.now s f.index c.in-Some.found v.1 v.0 o.2 in
     let long = field_long k.width s f.index d c.requires.long below in
     let good = none_at (field_refusal k s) (4 + d) f.index c.requires.amounts below in
-    handed_on c.from-residual.result _ _ e c.from-residual.ensures.1
+    handed_on c.from_residual.result _ _ e c.from_residual.ensures.1
     (v.4 ∙ fields_stop (join_refusal_at k h c.args.closing.0 (file_of k d s)) f.count f.index o.0 e
-    (c.in-err-next.ensures s d f.index is long below good c.requires.number v.3))
+    (c.in_err-next.ensures s d f.index is long below good c.requires.number v.3))
 
 pub loop-found-preserved : goal.loop-found-preserved
 loop-found-preserved g c =
@@ -64,12 +64,12 @@ loop-found-preserved g c =
     let is = same_field f.width k.width f.file.now s f.index c.in-Some.found v.1 v.0 o.2 in
     let long = field_long k.width s f.index d c.requires.long below in
     let good = none_at (field_refusal k s) (4 + d) f.index c.requires.amounts below in
-    let w = c.in-ok-next.ensures s d f.index is long below good c.requires.number v.3 in
+    let w = c.in_ok-next.ensures s d f.index is long below good c.requires.number v.3 in
     let j = join_refusal_at k h c.args.closing.0 (file_of k d s) in (
       a.file ∙ v.0,
       a.width ∙ v.1,
       a.count ∙ v.2,
-      subst (λ i. Walks g.A.Amount.meaning k h c.args.closing.0 d s i c.in-ok-next.next) (sym o.1) w.1,
+      subst (λ i. Walks g.A.Amount.meaning k h c.args.closing.0 d s i c.in_ok-next.next) (sym o.1) w.1,
       v.4 ∙ fields_next j f.count f.index o.0 w.0
           ∙ ap (λ m. first_from j (m - (f.index + 1)) (f.index + 1)) (sym a.count) ∙ ap (λ i. first_from j (n.count - i) i) (sym o.1),
     )
@@ -82,7 +82,7 @@ returns g c =
     let d = c.args.depth in
     let f = c.loop-found.fields in
     let v = c.loop-found.invariant in
-    let o = c.in-default.ensures.found.0 in
+    let o = c.in_default.ensures.found.0 in
     let ff = file_of k d s in (
       v.4 ∙ fields_done (join_refusal_at k h c.args.closing.0 ff) f.count f.index o,
       v.3.own-is (omega (arith, o, v.2)) ∙ ap (path_node k h c.args.closing.0 ff) (let e : f.index - 4 ≡ d = omega (arith, o, v.2, f.narrow) in e),

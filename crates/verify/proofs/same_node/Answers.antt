@@ -14,9 +14,9 @@ returns g c =
     let q = c.in-Ok-Ok.ensures'.answers.1 in
     let m = c.in-Ok-Ok.m in
     let n = c.in-Ok-Ok.n in
-    let one = c.write-node.new.out in
-    let two = c.write-node-2.new.out in
+    let one = c.write_node.new.out in
+    let two = c.write_node-2.new.out in
     let x : take (m - 0) one ≡ a = ap (λ i. take i one) (let e : m - 0 ≡ m = omega arith in e) ∙ ap (take m) p.2 ∙ front a _ m p.1 in
     let y : take (n - 0) two ≡ b = ap (λ i. take i two) (let e : n - 0 ≡ n = omega arith in e) ∙ ap (take n) q.2 ∙ front b _ n q.1 in
-    let s : c.same-bytes.result ≡ same (take (m - 0) one) (take (n - 0) two) = c.same-bytes.ensures in
+    let s : c.same_bytes.result ≡ same (take (m - 0) one) (take (n - 0) two) = c.same_bytes.ensures in
     s ∙ ap (λ z. same z (take (n - 0) two)) x ∙ ap (same a) y

@@ -13,7 +13,7 @@ returns-in-Ok-over g c s depth i f long below amount number walks =
     let n = c.args.closing.0 in
     let w = c.args.walker in
     let ff = file_of k depth s in
-    let st = c.in-Ok-read-node.step in
+    let st = c.in-Ok-read_node.step in
     let b = c.on_left.result in
     let low = subst (HasIndex i) c.in-Step.is f.named in
     let part = subst (λ x. bytes_of x ≡ field_bytes k.width s i) c.in-Step.is f.bytes_are in
@@ -22,7 +22,7 @@ returns-in-Ok-over g c s depth i f long below amount number walks =
     let y = node_of m st in
     let l = node_of m (cond b w.own st) in
     let r = node_of m (cond b st w.own) in
-    let py = step_is k s c.in-Step.part.now depth i y low below part c.in-Ok-read-node.ensures.1 in
+    let py = step_is k s c.in-Step.part.now depth i y low below part c.in-Ok-read_node.ensures.1 in
     let pl = chosen (node_of m) b w.own st in
     let pr = chosen (node_of m) b st w.own in (
       climbs k h n ff i low b bit x y l r (walks.own-is low) py pl pr c.in-Ok-over.ensures.0,
@@ -43,12 +43,12 @@ returns-in-Err-over g c s depth i f long below amount number walks =
     let n = c.args.closing.0 in
     let w = c.args.walker in
     let ff = file_of k depth s in
-    let st = c.in-Ok-read-node.step in
+    let st = c.in-Ok-read_node.step in
     let b = c.on_left.result in
     let low = subst (HasIndex i) c.in-Step.is f.named in
     let part = subst (λ x. bytes_of x ≡ field_bytes k.width s i) c.in-Step.is f.bytes_are in
     let bit : b ≡ is_left ff (i - 4) = c.on_left.ensures ∙ ap (λ x. eqb (x / 2 ^ w.height % 2) 0) number ∙ ap (λ x. eqb (ff.leaf / 2 ^ x % 2) 0) walks.height_is in
     let y = node_of m st in
-    let py = step_is k s c.in-Step.part.now depth i y low below part c.in-Ok-read-node.ensures.1 in
+    let py = step_is k s c.in-Step.part.now depth i y low below part c.in-Ok-read_node.ensures.1 in
     stops k h n ff i low b bit (node_of m w.own) y (node_of m (cond b w.own st)) (node_of m (cond b st w.own)) (walks.own-is low) py
     (chosen (node_of m) b w.own st) (chosen (node_of m) b st w.own) c.in-Err-over.field-0 c.args.found.offset f.offset_is c.in-Err-over.ensures

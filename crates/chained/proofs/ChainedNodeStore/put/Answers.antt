@@ -10,7 +10,7 @@ returns-then-i-ne0 c =
     let n = s.limits in
     let k = c.args.key.closing.0 in
     let p = c.args.key.place.0 in
-    let t = get_opened (chained_meaning s) k p (length c.args.bytes.now) c.in-ok-admit.ensures.0 in
+    let t = get_opened (chained_meaning s) k p (length c.args.bytes.now) c.in_ok-admit.ensures.0 in
     record {
       keeps = tt;
       answers = (

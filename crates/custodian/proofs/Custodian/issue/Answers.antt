@@ -3,13 +3,13 @@ use Rattle.closing.specs.Closings.{no_line}
 use Rattle.custodian.proofs.Papers.{same_stores, no_file, no_leaf, there, number_is, depth_is, tree_stands, texts_stand, leaf_there, file_told}
 use Rattle.custodian.proofs.Custodian.issue.Goals as goal
 
-pub returns-in-default : goal.returns-in-default
-returns-in-default g c = record {
+pub returns-in_default : goal.returns-in_default
+returns-in_default g c = record {
   keeps = c.requires;
   digest = refl;
   same = (refl, refl);
   refused = refl;
-  answers = λ s keeps shut. sym (no_file keeps c.args.closing.0 c.in-default.ensures shut c.args.leaf.0 c.args.out.now);
+  answers = λ s keeps shut. sym (no_file keeps c.args.closing.0 c.in_default.ensures shut c.args.leaf.0 c.args.out.now);
   stays = λ s keeps. keeps;
 }
 
@@ -28,7 +28,7 @@ returns g c =
     let n = c.args.closing.0 in
     let i = c.args.leaf.0 in
     let x = c.in-Some.stand in
-    let w = c.write-file.ensures in
+    let w = c.write_file.ensures in
     record {
       keeps = w.keeps;
       digest = refl;
@@ -37,7 +37,7 @@ returns g c =
       answers = λ s keeps shut.
           let e = sym c.in-Some.is ∙ c.find.ensures in
           let low = c.if-leaf-stand.false in
-          file_told keeps n x e shut i low c.write-file.result _ _
+          file_told keeps n x e shut i low c.write_file.result _ _
           (w.answers (there keeps n x e).0 (get_or (there keeps n x e).0.lines i no_line) (tree_stands keeps n x e) (texts_stand keeps n x e) (number_is keeps n x e) (depth_is keeps n x e) (leaf_there keeps n x e shut i low));
       stays = λ s keeps. same_stores w.same.0 w.same.1 keeps;
     }

@@ -2,13 +2,13 @@ use Rattle.std.proofs.Common.{◌≡◌, sym, refl, ap, ◌∙◌, subst}
 use Rattle.custodian.proofs.Papers.{same_stores, no_sheet, there, number_is, depth_is, tree_stands, sheet_told}
 use Rattle.custodian.proofs.Custodian.sheet.Goals as goal
 
-pub returns-in-default : goal.returns-in-default
-returns-in-default g c = record {
+pub returns-in_default : goal.returns-in_default
+returns-in_default g c = record {
   keeps = c.requires;
   digest = refl;
   same = (refl, refl);
   refused = refl;
-  answers = λ s keeps. sym (no_sheet keeps c.args.closing.0 c.in-default.ensures c.args.out.now);
+  answers = λ s keeps. sym (no_sheet keeps c.args.closing.0 c.in_default.ensures c.args.out.now);
   stays = λ s keeps. keeps;
 }
 
@@ -17,12 +17,12 @@ returns g c =
     let n = c.args.closing.0 in
     let x = c.in-Some.stand in
     record {
-      keeps = (c.write-sheet.ensures.keeps, c.requires.1);
+      keeps = (c.write_sheet.ensures.keeps, c.requires.1);
       digest = refl;
-      same = (c.write-sheet.ensures.same, refl);
-      refused = c.write-sheet.ensures.refused;
+      same = (c.write_sheet.ensures.same, refl);
+      refused = c.write_sheet.ensures.refused;
       answers = λ s keeps.
           let e = sym c.in-Some.is ∙ c.find.ensures in
-          sheet_told keeps n x e c.write-sheet.result _ _ (c.write-sheet.ensures.answers (there keeps n x e).0 (tree_stands keeps n x e) (number_is keeps n x e) (depth_is keeps n x e));
-      stays = λ s keeps. same_stores c.write-sheet.ensures.same refl keeps;
+          sheet_told keeps n x e c.write_sheet.result _ _ (c.write_sheet.ensures.answers (there keeps n x e).0 (tree_stands keeps n x e) (number_is keeps n x e) (depth_is keeps n x e));
+      stays = λ s keeps. same_stores c.write_sheet.ensures.same refl keeps;
     }

@@ -8,17 +8,17 @@ pub returns : goal.returns
 returns g c =
     let n = c.args.closing.0 in
     let was = c.args.self.now in
-    let rest = c.forget-both.ensures.rest in
+    let rest = c.forget_both.ensures.rest in
     record {
-      keeps = c.forget-both.ensures.keeps;
+      keeps = c.forget_both.ensures.keeps;
       digest = rest.0;
       refused = tt;
       answers = λ s keeps. sym (withdraw_done keeps n (sym (c.stands.ensures s keeps) ∙ c.if-not-stands.false)).0;
       withdrawn = λ s keeps.
           let there = sym (c.stands.ensures s keeps) ∙ c.if-not-stands.false in
           let spans = withdraw_spans keeps n there in
-          let a = c.forget-both.ensures.nodes spans.0 in
-          let b = c.forget-both.ensures.leaves spans.1 in
+          let a = c.forget_both.ensures.nodes spans.0 in
+          let b = c.forget_both.ensures.leaves spans.1 in
           let r = c.remove.ensures ∙ ap (λ x. without_number number_of n (take x.len x.rows)) rest.1 in
           ((a, b), same_digest g.D.Digest.hash was.digest _ rest.0 (keeps_withdrawn keeps n there a b r));
     }

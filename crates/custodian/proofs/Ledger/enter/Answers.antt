@@ -26,23 +26,23 @@ returns-in-Ok g c =
     let salt = c.args.salt.now in
     let balance = g.A.Amount.meaning c.args.balance in
     let w = g.met.A.Amount.sound c.args.balance in
-    let rest = c.put-line.ensures.rest in
+    let rest = c.put_line.ensures.rest in
     let x = was.closing.0 in
-    let p = c.leaf-count.result + was.lines in
-    let at : p ≡ 2 ^ was.depth + was.lines = ap (λ n. n + was.lines) (c.leaf-count.ensures.leaves c.in-Ok.ensures.low.0) in
+    let p = c.leaf_count.result + was.lines in
+    let at : p ≡ 2 ^ was.depth + was.lines = ap (λ n. n + was.lines) (c.leaf_count.ensures.leaves c.in-Ok.ensures.low.0) in
     let m : Meaning = g.N.NodeStore.meaning was.of.nodes in
-    let m' : Meaning = g.N.NodeStore.meaning c.put-line.new.self.nodes in
+    let m' : Meaning = g.N.NodeStore.meaning c.put_line.new.self.nodes in
     let l : Meaning = g.L.NodeStore.meaning was.of.leaves in
-    let l' : Meaning = g.L.NodeStore.meaning c.put-line.new.self.leaves in
+    let l' : Meaning = g.L.NodeStore.meaning c.put_line.new.self.leaves in
     record {
-      keeps = c.put-line.ensures.keeps;
+      keeps = c.put_line.ensures.keeps;
       digest = rest.0;
       refused = tt;
       answers = λ s open'. sym (enter_answered open' customer salt balance w (c.in-Ok.ensures.table s open').0);
       entered = λ s open'.
           let t = c.in-Ok.ensures.table s open' in
           let puts = enter_puts open' customer salt balance w t.0 p at in
-          let a = subst (λ (y : Line). Put m m' x p (node_bytes k (leaf_node k (g.D.Digest.hash was.of.digest) x y))) t.1.0 (c.put-line.ensures.node puts.0) in
-          let b = subst (λ (y : Line). Put l l' x p (leaf_text k x y)) t.1.0 (c.put-line.ensures.text puts.1) in
+          let a = subst (λ (y : Line). Put m m' x p (node_bytes k (leaf_node k (g.D.Digest.hash was.of.digest) x y))) t.1.0 (c.put_line.ensures.node puts.0) in
+          let b = subst (λ (y : Line). Put l l' x p (leaf_text k x y)) t.1.0 (c.put_line.ensures.text puts.1) in
           same_digest_open g.D.Digest.hash was.of.digest _ rest.0 (keeps_entered open' customer salt balance w t.0 p at a b (ap (λ y. take y.len y.rows) rest.1) t.1.1);
     }

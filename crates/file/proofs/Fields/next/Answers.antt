@@ -2,8 +2,8 @@ use Rattle.std.proofs.Common.{◌≡◌, ℕ, ◌+◌, ◌-◌, ◌≤◌, lengt
 use Rattle.file.proofs.Ends.{within}
 use Rattle.file.proofs.Fields.next.Goals as goal
 
-pub slice-bounds-part-end : goal.slice-bounds-part-end
-slice-bounds-part-end c =
+pub slice_bounds-part-end : goal.slice_bounds-part-end
+slice_bounds-part-end c =
     let r = c.args.self.now in
     let w = r.whole (omega arith) in
     let h = within r.width r.index r.count w.0 (omega arith) in

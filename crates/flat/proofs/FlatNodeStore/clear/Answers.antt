@@ -12,11 +12,11 @@ use Rattle.flat_theory.proofs.Finds.{clear_slots}
 use Rattle.flat.specs.Meaning.{flat_meaning}
 use Rattle.flat.proofs.FlatNodeStore.clear.Goals as goal
 
-pub clear-marks-requires : goal.clear-marks-requires
-clear-marks-requires c =
+pub clear_marks-requires : goal.clear_marks-requires
+clear_marks-requires c =
     let s = c.args.self.now in
     let n = s.limits in
-    let i = span_out n.first n.last c.args.closing.0 (held_open (flat_meaning s) c.args.closing.0 c.in-ok-admit-closing.ensures.0) in
+    let i = span_out n.first n.last c.args.closing.0 (held_open (flat_meaning s) c.args.closing.0 c.in_ok-admit_closing.ensures.0) in
     let k = n.bound - 2 in
     let last : slot_of n.width n.first n.bound c.args.closing.0 (k + 1) + (n.width + 1) ≤ (n.last + 1 - n.first) * n.bound * (n.width + 1) =
     slot_fits n.width n.first n.last n.bound c.args.closing.0 (k + 1) i.0 i.1 (omega arith) in
@@ -37,11 +37,11 @@ done s v k n base open-to e len marks rest count =
     clear_slots (vec_items s.memory) (vec_items v) m.width m.first m.last m.bound k s.room n base e (omega (arith, len, s.memory.ok.0, v.ok.0))
     (span_out m.first m.last k (held_open (flat_meaning s) k open-to)) marks rest count
 
-pub invariant-of-self : goal.invariant-of-self
-invariant-of-self c =
+pub invariant_of-self : goal.invariant_of-self
+invariant_of-self c =
     let s = c.args.self.now in
-    let t = held_open (flat_meaning s) c.args.closing.0 c.in-ok-admit-closing.ensures.0 in
-    (s.narrow, (s.span, (s.places, (omega (arith, s.fits, c.clear-marks.ensures.len), (cleared_all (flat_meaning s) _ c.args.closing.0 t (done s c.clear-marks.new.memory c.args.closing.0 c.count-n.result c.slot-base.result c.in-ok-admit-closing.ensures.0 c.slot-base.ensures.is c.clear-marks.ensures.len c.clear-marks.ensures.marks c.clear-marks.ensures.rest c.count-n.ensures) ∙ s.counts, tt)))))
+    let t = held_open (flat_meaning s) c.args.closing.0 c.in_ok-admit_closing.ensures.0 in
+    (s.narrow, (s.span, (s.places, (omega (arith, s.fits, c.clear_marks.ensures.len), (cleared_all (flat_meaning s) _ c.args.closing.0 t (done s c.clear_marks.new.memory c.args.closing.0 c.count-n.result c.slot-base.result c.in_ok-admit_closing.ensures.0 c.slot-base.ensures.is c.clear_marks.ensures.len c.clear_marks.ensures.marks c.clear_marks.ensures.rest c.count-n.ensures) ∙ s.counts, tt)))))
 
 pub returns : goal.returns
-returns c = let s = c.args.self.now in record { keeps = tt; answers = (c.in-ok-admit-closing.ensures.0, done s c.clear-marks.new.memory c.args.closing.0 c.count-n.result c.slot-base.result c.in-ok-admit-closing.ensures.0 c.slot-base.ensures.is c.clear-marks.ensures.len c.clear-marks.ensures.marks c.clear-marks.ensures.rest c.count-n.ensures); refused = tt }
+returns c = let s = c.args.self.now in record { keeps = tt; answers = (c.in_ok-admit_closing.ensures.0, done s c.clear_marks.new.memory c.args.closing.0 c.count-n.result c.slot-base.result c.in_ok-admit_closing.ensures.0 c.slot-base.ensures.is c.clear_marks.ensures.len c.clear_marks.ensures.marks c.clear_marks.ensures.rest c.count-n.ensures); refused = tt }

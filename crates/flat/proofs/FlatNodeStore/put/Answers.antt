@@ -10,14 +10,14 @@ use Rattle.flat_theory.proofs.Finds.{put_slot, flat_has_room}
 use Rattle.flat.specs.Meaning.{flat_meaning}
 use Rattle.flat.proofs.FlatNodeStore.put.Goals as goal
 
-pub room-after-room-requires : goal.room-after-room-requires
-room-after-room-requires c =
+pub room_after-room-requires : goal.room_after-room-requires
+room_after-room-requires c =
     let s = c.args.self.now in
     let n = s.limits in
-    let t = get_opened (flat_meaning s) c.args.key.closing.0 c.args.key.place.0 (length c.args.bytes.now) c.in-ok-admit.ensures.0 in
+    let t = get_opened (flat_meaning s) c.args.key.closing.0 c.args.key.place.0 (length c.args.bytes.now) c.in_ok-admit.ensures.0 in
     record {
-      within = omega (arith, c.slot-at.ensures.fits);
-      some = flat_has_room (vec_items s.memory) n.width n.first n.last n.bound c.args.key.closing.0 c.args.key.place.0 s.room c.slot-at.result c.slot-at.ensures.is t.0 s.counts;
+      within = omega (arith, c.slot_at.ensures.fits);
+      some = flat_has_room (vec_items s.memory) n.width n.first n.last n.bound c.args.key.closing.0 c.args.key.place.0 s.room c.slot_at.result c.slot_at.ensures.is t.0 s.counts;
     }
 
 -- the calls' promises together
@@ -29,21 +29,21 @@ done s v k p room at r open-to e items rooms =
     let t = get_opened (flat_meaning s) k p (length r) open-to in
     put_slot (vec_items s.memory) v n.width n.first n.last n.bound k p s.room room at r e items t.1 t.0 (omega (arith, s.fits, s.memory.ok.0)) rooms
 
-pub invariant-of-self : goal.invariant-of-self
-invariant-of-self c =
+pub invariant_of-self : goal.invariant_of-self
+invariant_of-self c =
     let s = c.args.self.now in
     let n = s.limits in
     let k = c.args.key.closing.0 in
     let p = c.args.key.place.0 in
-    let t = get_opened (flat_meaning s) k p (length c.args.bytes.now) c.in-ok-admit.ensures.0 in (
+    let t = get_opened (flat_meaning s) k p (length c.args.bytes.now) c.in_ok-admit.ensures.0 in (
       s.narrow,
       (
         s.span,
         (
           s.places,
           (
-            omega (arith, s.fits, c.write-slot.ensures.len),
-            (put_all (flat_meaning s) _ k p c.args.bytes.now t.0 (key_span n.first n.last n.bound k p t.0) (done s (vec_items c.write-slot.new.memory) k p c.room-after-room.result c.slot-at.result c.args.bytes.now c.in-ok-admit.ensures.0 c.slot-at.ensures.is c.write-slot.ensures.items c.room-after-room.ensures) ∙ s.counts, tt),
+            omega (arith, s.fits, c.write_slot.ensures.len),
+            (put_all (flat_meaning s) _ k p c.args.bytes.now t.0 (key_span n.first n.last n.bound k p t.0) (done s (vec_items c.write_slot.new.memory) k p c.room_after-room.result c.slot_at.result c.args.bytes.now c.in_ok-admit.ensures.0 c.slot_at.ensures.is c.write_slot.ensures.items c.room_after-room.ensures) ∙ s.counts, tt),
           ),
         ),
       ),
@@ -55,6 +55,6 @@ returns c =
     let n = s.limits in
     let k = c.args.key.closing.0 in
     let p = c.args.key.place.0 in
-    let t = get_opened (flat_meaning s) k p (length c.args.bytes.now) c.in-ok-admit.ensures.0 in
+    let t = get_opened (flat_meaning s) k p (length c.args.bytes.now) c.in_ok-admit.ensures.0 in
     let room : (flat_meaning s).find k p ≡ None → 1 ≤ s.room = λ e. omega (arith, s.counts, not_all (flat_meaning s) k p t.0 e) in
-    record { keeps = tt; answers = (put_open (flat_meaning s) k p (length c.args.bytes.now) t.0 t.1 room, done s (vec_items c.write-slot.new.memory) k p c.room-after-room.result c.slot-at.result c.args.bytes.now c.in-ok-admit.ensures.0 c.slot-at.ensures.is c.write-slot.ensures.items c.room-after-room.ensures); refused = tt }
+    record { keeps = tt; answers = (put_open (flat_meaning s) k p (length c.args.bytes.now) t.0 t.1 room, done s (vec_items c.write_slot.new.memory) k p c.room_after-room.result c.slot_at.result c.args.bytes.now c.in_ok-admit.ensures.0 c.slot_at.ensures.is c.write_slot.ensures.items c.room_after-room.ensures); refused = tt }

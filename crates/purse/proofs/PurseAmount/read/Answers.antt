@@ -10,28 +10,28 @@ pub returns-then-bytes-ne32 : goal.returns-then-bytes-ne32
 returns-then-bytes-ne32 c =
     reads_none purse purse_laws c.args.bytes.now (λ m w e. c.if-bytes-ne32.true (sym (ap length e) ∙ purse_laws.bytes_width m w))
 
-pub returns-in-err-a : goal.returns-in-err-a
-returns-in-err-a c =
-    let e = c.in-err-a.field-0.0 in
-    handed_on c.from-residual.result _ _ e c.from-residual.ensures.1 (part_refused c.args.bytes.now 0 e (part_0 c.args.bytes.now) c.in-err-a.ensures)
+pub returns-in_err-a : goal.returns-in_err-a
+returns-in_err-a c =
+    let e = c.in_err-a.field-0.0 in
+    handed_on c.from_residual.result _ _ e c.from_residual.ensures.1 (part_refused c.args.bytes.now 0 e (part_0 c.args.bytes.now) c.in_err-a.ensures)
 
-pub returns-in-err-b : goal.returns-in-err-b
-returns-in-err-b c =
-    let e = c.in-err-b.field-0.0 in
-    handed_on c.from-residual-in-err-b.result _ _ e c.from-residual-in-err-b.ensures.1 (part_refused c.args.bytes.now 8 e (part_8 c.args.bytes.now) c.in-err-b.ensures)
+pub returns-in_err-b : goal.returns-in_err-b
+returns-in_err-b c =
+    let e = c.in_err-b.field-0.0 in
+    handed_on c.from_residual-in_err-b.result _ _ e c.from_residual-in_err-b.ensures.1 (part_refused c.args.bytes.now 8 e (part_8 c.args.bytes.now) c.in_err-b.ensures)
 
-pub returns-in-err-c : goal.returns-in-err-c
-returns-in-err-c c =
-    let e = c.in-err-c.field-0.0 in
-    handed_on c.from-residual-in-err-c.result _ _ e c.from-residual-in-err-c.ensures.1 (part_refused c.args.bytes.now 16 e (part_16 c.args.bytes.now) c.in-err-c.ensures)
+pub returns-in_err-c : goal.returns-in_err-c
+returns-in_err-c c =
+    let e = c.in_err-c.field-0.0 in
+    handed_on c.from_residual-in_err-c.result _ _ e c.from_residual-in_err-c.ensures.1 (part_refused c.args.bytes.now 16 e (part_16 c.args.bytes.now) c.in_err-c.ensures)
 
-pub returns-in-err-d : goal.returns-in-err-d
-returns-in-err-d c =
-    let e = c.in-err-d.field-0.0 in
-    handed_on c.from-residual-in-err-d.result _ _ e c.from-residual-in-err-d.ensures.1 (part_refused c.args.bytes.now 24 e (part_24 c.args.bytes.now) c.in-err-d.ensures)
+pub returns-in_err-d : goal.returns-in_err-d
+returns-in_err-d c =
+    let e = c.in_err-d.field-0.0 in
+    handed_on c.from_residual-in_err-d.result _ _ e c.from_residual-in_err-d.ensures.1 (part_refused c.args.bytes.now 24 e (part_24 c.args.bytes.now) c.in_err-d.ensures)
 
 pub returns : goal.returns
 returns c =
     let s = c.args.bytes.now in
-    four_read s c.in-ok-a.a.cents c.in-ok-b.b.cents c.in-ok-c.c.cents c.in-ok-d.d.cents c.if-bytes-ne32.false
-    c.in-ok-a.ensures.1 c.in-ok-b.ensures.1 c.in-ok-c.ensures.1 c.in-ok-d.ensures.1
+    four_read s c.in_ok-a.a.cents c.in_ok-b.b.cents c.in_ok-c.c.cents c.in_ok-d.d.cents c.if-bytes-ne32.false
+    c.in_ok-a.ensures.1 c.in_ok-b.ensures.1 c.in_ok-c.ensures.1 c.in_ok-d.ensures.1

@@ -36,8 +36,8 @@ loop-i-preserved c =
       )
     ]
 
-pub invariant-of-self : goal.invariant-of-self
-invariant-of-self c = ((omega (arith, c.args.self.now.few), c.loop-i.invariant.1), tt)
+pub invariant_of-self : goal.invariant_of-self
+invariant_of-self c = ((omega (arith, c.args.self.now.few), c.loop-i.invariant.1), tt)
 
 pub returns : goal.returns
 returns c =

@@ -18,8 +18,8 @@ returns-then-bytes-ne8 c =
 
 pub returns-then-cents-le-MOST : goal.returns-then-cents-le-MOST
 returns-then-cents-le-MOST c =
-    let n = c.from-be-bytes-cents.result in
-    let f = be_eight c.args.bytes.now n c.if-bytes-ne8.false (λ i. omega (arith, c.type-inv.bytes i)) c.from-be-bytes-cents.ensures in
+    let n = c.from_be_bytes-cents.result in
+    let f = be_eight c.args.bytes.now n c.if-bytes-ne8.false (λ i. omega (arith, c.type_inv.bytes i)) c.from_be_bytes-cents.ensures in
     reads_one single single_laws c.args.bytes.now (n ∷ []) (writable_in 1 (n ∷ []) (refl, (omega arith, tt))) f
 
 -- no amount has the bytes of a number that is too large
@@ -33,6 +33,6 @@ too_large s n (x ∷ y ∷ m) f h w e = omega (arith, w.0)
 pub returns-else-cents-le-MOST : goal.returns-else-cents-le-MOST
 returns-else-cents-le-MOST c =
     let s = c.args.bytes.now in
-    let n = c.from-be-bytes-cents.result in
-    let f = be_eight s n c.if-bytes-ne8.false (λ i. omega (arith, c.type-inv.bytes i)) c.from-be-bytes-cents.ensures in
+    let n = c.from_be_bytes-cents.result in
+    let f = be_eight s n c.if-bytes-ne8.false (λ i. omega (arith, c.type_inv.bytes i)) c.from_be_bytes-cents.ensures in
     reads_none single single_laws s (λ m w e. too_large s n m f (omega arith, omega arith) (writable_out 1 m w) e)

@@ -11,4 +11,4 @@ returns c =
     let m = vec_items s.memory in
     let i = span_out s.limits.first s.limits.last c.args.closing c.requires in
     ∥∥₁_elim (s.linked (s.alive (omega arith))) (ℕ_set _ _) (λ k.
-    c.count-of.ensures.is ∙ sym (held_count m s.limits.width s.count s.limits.first s.limits.last s.limits.bound s.room c.args.closing k.keys (omega arith) k.laid i))
+    c.count_of.ensures.is ∙ sym (held_count m s.limits.width s.count s.limits.first s.limits.last s.limits.bound s.room c.args.closing k.keys (omega arith) k.laid i))

@@ -4,18 +4,18 @@ use Rattle.chained_theory.proofs.Relays.{laid_heads}
 use Rattle.chained_theory.proofs.Clears.{new_linked, new_none}
 use Rattle.chained.proofs.types.Chained.emptied.Goals as goal
 
-pub relay-in-requires : goal.relay-in-requires
-relay-in-requires c =
+pub relay_in-requires : goal.relay_in-requires
+relay_in-requires c =
     let n = c.args.limits in
     let v = chained_fits n.width n.first n.last n.bound c.args.count (vec_len c.args.memory) c.requires in
     record { narrow = (v.0.narrow, v.2); fits = v.3 }
 
-pub invariant-of-result : goal.invariant-of-result
-invariant-of-result c =
+pub invariant_of-result : goal.invariant_of-result
+invariant_of-result c =
     let n = c.args.limits in
     let v = chained_fits n.width n.first n.last n.bound c.args.count (vec_len c.args.memory) c.requires in
-    let m : List ℕ = vec_items c.relay-in.new.memory in
-    let laid = c.relay-in.ensures.laid in (
+    let m : List ℕ = vec_items c.relay_in.new.memory in
+    let laid = c.relay_in.ensures.laid in (
       (v.0.wide, v.0.narrow),
       (
         (v.0.starts, v.0.ends),
@@ -28,12 +28,12 @@ invariant-of-result c =
               (
                 (λ z. let q : ⊥ = omega (arith, v.0.some) in absurd q),
                 (
-                  (λ _. omega (arith, v.3, c.relay-in.ensures.len)),
+                  (λ _. omega (arith, v.3, c.relay_in.ensures.len)),
                   (
                     (λ _. laid_heads m n.width c.args.count laid),
                     (
-                      c.relay-in.ensures.nexts,
-                      ((λ _. ∣ new_linked (vec_items c.args.memory) m n.width c.args.count n.first n.last n.bound 0 v.0.starts laid c.relay-in.ensures.forgot ∣₁), tt),
+                      c.relay_in.ensures.nexts,
+                      ((λ _. ∣ new_linked (vec_items c.args.memory) m n.width c.args.count n.first n.last n.bound 0 v.0.starts laid c.relay_in.ensures.forgot ∣₁), tt),
                     ),
                   ),
                 ),
@@ -55,7 +55,7 @@ returns c =
         same_last = refl;
         same_bound = refl;
         same_room = refl;
-        none = new_none (vec_items c.args.memory) (vec_items c.relay-in.new.memory) n.width c.args.count n.first n.last n.bound 0 v.0.starts c.relay-in.ensures.laid c.relay-in.ensures.forgot;
+        none = new_none (vec_items c.args.memory) (vec_items c.relay_in.new.memory) n.width c.args.count n.first n.last n.bound 0 v.0.starts c.relay_in.ensures.laid c.relay_in.ensures.forgot;
       };
-      kept = c.relay-in.ensures.len;
+      kept = c.relay_in.ensures.len;
     }

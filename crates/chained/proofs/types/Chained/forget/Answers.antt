@@ -11,39 +11,39 @@ use Rattle.chained_theory.proofs.Relays.{laid_heads}
 use Rattle.chained_theory.proofs.Clears.{clear_linked, clear_few, cleared}
 use Rattle.chained.proofs.types.Chained.forget.Goals as goal
 
-pub overflow-add-self : goal.overflow-add-self
-overflow-add-self c =
+pub overflow_add-self : goal.overflow_add-self
+overflow_add-self c =
     let s = c.args.self.now in
-    omega (arith, c.relay-in-n.ensures.is, tally_le (λ k. eqb (closing_at (vec_items s.memory) s.limits.width (k + 1)) c.args.closing) s.count)
+    omega (arith, c.relay_in-n.ensures.is, tally_le (λ k. eqb (closing_at (vec_items s.memory) s.limits.width (k + 1)) c.args.closing) s.count)
 
-pub invariant-of-self : goal.invariant-of-self
-invariant-of-self c =
+pub invariant_of-self : goal.invariant_of-self
+invariant_of-self c =
     let s = c.args.self.now in
     let a = c.args.closing in
     let i = span_out s.limits.first s.limits.last a c.requires in
     let m : List ℕ = vec_items s.memory in
-    let m' : List ℕ = vec_items c.relay-in-n.new.memory in
+    let m' : List ℕ = vec_items c.relay_in-n.new.memory in
     let one : 1 ≤ s.count = s.alive (omega arith) in
-    let e = c.relay-in-n.ensures.is in (
+    let e = c.relay_in-n.ensures.is in (
       s.narrow,
       (
         s.span,
         (
           s.places,
           (
-            (∥∥₁_elim (s.linked one) le_prop (λ k. omega (arith, e, clear_few m m' s.limits.width s.count s.limits.first s.limits.last s.limits.bound s.room a k s.span.0 (omega arith) c.relay-in-n.ensures.laid c.relay-in-n.ensures.forgot)), s.few.1),
+            (∥∥₁_elim (s.linked one) le_prop (λ k. omega (arith, e, clear_few m m' s.limits.width s.count s.limits.first s.limits.last s.limits.bound s.room a k s.span.0 (omega arith) c.relay_in-n.ensures.laid c.relay_in-n.ensures.forgot)), s.few.1),
             (
               s.alive,
               (
                 (λ z. let q : ⊥ = omega arith in absurd q),
                 (
-                  (λ _. omega (arith, s.fits one, c.relay-in-n.ensures.len)),
+                  (λ _. omega (arith, s.fits one, c.relay_in-n.ensures.len)),
                   (
-                    (λ _. laid_heads m' s.limits.width s.count c.relay-in-n.ensures.laid),
+                    (λ _. laid_heads m' s.limits.width s.count c.relay_in-n.ensures.laid),
                     (
-                      c.relay-in-n.ensures.nexts,
+                      c.relay_in-n.ensures.nexts,
                       (
-                        (λ _. ∥∥₁_map (s.linked one) (λ k. subst (λ z. Linked m' s.limits.width s.count s.limits.first s.limits.last s.limits.bound (s.room + z)) (sym e) (clear_linked m m' s.limits.width s.count s.limits.first s.limits.last s.limits.bound s.room a k s.span.0 (omega arith) c.relay-in-n.ensures.laid c.relay-in-n.ensures.forgot))),
+                        (λ _. ∥∥₁_map (s.linked one) (λ k. subst (λ z. Linked m' s.limits.width s.count s.limits.first s.limits.last s.limits.bound (s.room + z)) (sym e) (clear_linked m m' s.limits.width s.count s.limits.first s.limits.last s.limits.bound s.room a k s.span.0 (omega arith) c.relay_in-n.ensures.laid c.relay_in-n.ensures.forgot))),
                         tt,
                       ),
                     ),
@@ -62,8 +62,8 @@ returns c =
     let a = c.args.closing in
     let i = span_out s.limits.first s.limits.last a c.requires in
     let m : List ℕ = vec_items s.memory in
-    let m' : List ℕ = vec_items c.relay-in-n.new.memory in
+    let m' : List ℕ = vec_items c.relay_in-n.new.memory in
     let one : 1 ≤ s.count = s.alive (omega arith) in
     ∥∥₁_elim (s.linked one) (cleared_prop _ _ _) (λ k.
-    subst (λ z. Cleared (chained_of m s.limits.width s.count s.limits.first s.limits.last s.limits.bound s.room) (chained_of m' s.limits.width s.count s.limits.first s.limits.last s.limits.bound (s.room + z)) a) (sym c.relay-in-n.ensures.is)
-    (cleared m m' s.limits.width s.count s.limits.first s.limits.last s.limits.bound s.room a k s.span.0 (omega arith) c.relay-in-n.ensures.laid c.relay-in-n.ensures.forgot i))
+    subst (λ z. Cleared (chained_of m s.limits.width s.count s.limits.first s.limits.last s.limits.bound s.room) (chained_of m' s.limits.width s.count s.limits.first s.limits.last s.limits.bound (s.room + z)) a) (sym c.relay_in-n.ensures.is)
+    (cleared m m' s.limits.width s.count s.limits.first s.limits.last s.limits.bound s.room a k s.span.0 (omega arith) c.relay_in-n.ensures.laid c.relay_in-n.ensures.forgot i))

@@ -18,20 +18,20 @@ at-at-requires c =
     let x = free_record (vec_items s.memory) s.limits.width s.count s.limits.first s.limits.last s.limits.bound s.room k c.requires.some in
     (omega (arith, x, c.head-x.ensures), omega (arith, x, c.head-x.ensures)))
 
-pub push-in-requires : goal.push-in-requires
-push-in-requires c =
+pub push_in-requires : goal.push_in-requires
+push_in-requires c =
     let s = c.args.self.now in
     record { fits = omega (arith, c.at-at.ensures.fits, c.requires.wide); past = omega (arith, c.at-at.ensures.is, past_heads s.limits.width c.head-x.result); bucket = omega arith }
 
-pub invariant-of-self : goal.invariant-of-self
-invariant-of-self c =
+pub invariant_of-self : goal.invariant_of-self
+invariant_of-self c =
     let s = c.args.self.now in
     let a = c.args.key.closing.0 in
     let p = c.args.key.place.0 in
     let r = c.args.bytes.now in
     let m : List ℕ = vec_items s.memory in
-    let e : vec_items c.push-in.new.memory ≡ push_on m s.limits.width (head_at m 0) (bucket_of a p) a p r =
-    c.push-in.ensures.items s.limits.width c.at-at.ensures.is ∙ ap (λ x. push_on m s.limits.width x (bucket_of a p) a p r) c.head-x.ensures in
+    let e : vec_items c.push_in.new.memory ≡ push_on m s.limits.width (head_at m 0) (bucket_of a p) a p r =
+    c.push_in.ensures.items s.limits.width c.at-at.ensures.is ∙ ap (λ x. push_on m s.limits.width x (bucket_of a p) a p r) c.head-x.ensures in
     let one : 1 ≤ s.count = omega arith in
     let fits : 68 + s.count * (12 + s.limits.width) ≤ length m = omega (arith, s.fits one, s.memory.ok.0) in (
       s.narrow,
@@ -46,7 +46,7 @@ invariant-of-self c =
               (
                 (λ z. let q : ⊥ = omega (arith, key_out s.limits.first s.limits.last s.limits.bound a p c.requires.inside) in absurd q),
                 (
-                  (λ _. omega (arith, s.fits one, c.push-in.ensures.len)),
+                  (λ _. omega (arith, s.fits one, c.push_in.ensures.len)),
                   (
                     (λ _ j h. ∥∥₁_elim (s.linked one) le_prop (λ k. subst (λ xs. head_at xs j ≤ s.count) (sym e) (push_heads m s.limits.width s.count s.limits.first s.limits.last s.limits.bound s.room a p r k fits s.span.0 c.requires.inside c.requires.wide c.requires.absent c.requires.some s.nexts (s.heads one) j h))),
                     (
@@ -72,8 +72,8 @@ returns c =
     let p = c.args.key.place.0 in
     let r = c.args.bytes.now in
     let m : List ℕ = vec_items s.memory in
-    let e : vec_items c.push-in.new.memory ≡ push_on m s.limits.width (head_at m 0) (bucket_of a p) a p r =
-    c.push-in.ensures.items s.limits.width c.at-at.ensures.is ∙ ap (λ x. push_on m s.limits.width x (bucket_of a p) a p r) c.head-x.ensures in
+    let e : vec_items c.push_in.new.memory ≡ push_on m s.limits.width (head_at m 0) (bucket_of a p) a p r =
+    c.push_in.ensures.items s.limits.width c.at-at.ensures.is ∙ ap (λ x. push_on m s.limits.width x (bucket_of a p) a p r) c.head-x.ensures in
     let one : 1 ≤ s.count = omega arith in
     let fits : 68 + s.count * (12 + s.limits.width) ≤ length m = omega (arith, s.fits one, s.memory.ok.0) in
     ∥∥₁_elim (s.linked one) (put_prop _ _ _ _ _) (λ k.

@@ -4,13 +4,13 @@ use Rattle.flat_theory.specs.Layout.{flat_of, flat_room}
 use Rattle.flat_theory.proofs.Finds.{none_found, flat_fits, flat_small}
 use Rattle.flat.proofs.types.Flat.emptied.Goals as goal
 
-pub invariant-of-result : goal.invariant-of-result
-invariant-of-result c =
+pub invariant_of-result : goal.invariant_of-result
+invariant_of-result c =
     let n = c.args.limits in
     let v = flat_fits n.width n.first n.last n.bound (vec_len c.args.memory) c.requires in
-    let none = none_found (vec_items c.clear-marks.new.memory) n.width n.first n.last n.bound c.clear-marks.ensures.marks in
-    let held = none_held (flat_of (vec_items c.clear-marks.new.memory) n.width n.first n.last n.bound (flat_room n.first n.last n.bound)) none in
-    ((v.0.wide, v.0.narrow), ((v.0.starts, v.0.ends), ((v.0.two, v.0.most), (omega (arith, v.1, c.clear-marks.ensures.len), (omega (arith, held), tt)))))
+    let none = none_found (vec_items c.clear_marks.new.memory) n.width n.first n.last n.bound c.clear_marks.ensures.marks in
+    let held = none_held (flat_of (vec_items c.clear_marks.new.memory) n.width n.first n.last n.bound (flat_room n.first n.last n.bound)) none in
+    ((v.0.wide, v.0.narrow), ((v.0.starts, v.0.ends), ((v.0.two, v.0.most), (omega (arith, v.1, c.clear_marks.ensures.len), (omega (arith, held), tt)))))
 
 pub returns : goal.returns
 returns c =
@@ -22,7 +22,7 @@ returns c =
         same_last = refl;
         same_bound = refl;
         same_room = refl;
-        none = none_found (vec_items c.clear-marks.new.memory) n.width n.first n.last n.bound c.clear-marks.ensures.marks;
+        none = none_found (vec_items c.clear_marks.new.memory) n.width n.first n.last n.bound c.clear_marks.ensures.marks;
       };
-      kept = c.clear-marks.ensures.len;
+      kept = c.clear_marks.ensures.len;
     }

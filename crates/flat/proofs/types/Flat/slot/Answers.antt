@@ -4,9 +4,9 @@ use Rattle.flat_theory.specs.Layout.{slot_of}
 use Rattle.flat_theory.proofs.Slots.{slot_fits}
 use Rattle.flat.proofs.types.Flat.slot.Goals as goal
 
-pub overflow-mul-result-2 : goal.overflow-mul-result-2
+pub overflow_mul-result-2 : goal.overflow_mul-result-2
 unfolding slot_of
-overflow-mul-result-2 c =
+overflow_mul-result-2 c =
     let s = c.args.self.now in
     let n = s.limits in
     let i = key_out n.first n.last n.bound c.args.key.closing.0 c.args.key.place.0 c.requires in
