@@ -10,6 +10,21 @@ MADE = ["in_err", "in_ok", "in_default", "overflow_add", "overflow_sub", "overfl
         "deref_mut", "index_mut", "from_residual", "from_output"]
 
 
+def without_clauses(text):
+    """The code without its clauses and ghost items."""
+    out, at = [], 0
+    for m in re.finditer(r"\b(?:requires|ensures|ghost)\b[^{;]*\{", text):
+        if m.start() < at:
+            continue
+        out.append(text[at:m.start()])
+        depth, at = 1, m.end()
+        while depth and at < len(text):
+            depth += {"{": 1, "}": -1}.get(text[at], 0)
+            at += 1
+    out.append(text[at:])
+    return "".join(out)
+
+
 def main():
     for crate in sorted(os.listdir("crates")):
         names = set(MADE)
@@ -18,7 +33,7 @@ def main():
                 if f.endswith(".rt"):
                     with open(os.path.join(folder, f), encoding="utf-8") as file:
                         text = "\n".join(x.split("//")[0] for x in file.read().split("\n") if not x.startswith("ghost use"))
-                    names.update(re.findall(r"\b[a-z][a-z0-9]*(?:_[a-z0-9]+)+\b", text))
+                    names.update(re.findall(r"\b[a-z]?[a-z0-9]*(?:_[a-z0-9]+)+\b", without_clauses(text)))
         order = sorted(names, key=len, reverse=True)
         rules = [(re.compile(r"(?<![a-zA-Z0-9_])" + re.escape(n.replace("_", "-")) + r"(?![a-zA-Z0-9_])"), n) for n in order]
         for folder, _, found in os.walk(f"crates/{crate}/proofs"):

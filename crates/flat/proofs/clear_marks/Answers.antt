@@ -5,14 +5,14 @@ use Rattle.flat_theory.proofs.Slots.{next_slot}
 use Rattle.flat.proofs.clear_marks.Goals as goal
 
 pub index_mut-requires : goal.index_mut-requires
-index_mut-requires c = omega (arith, next_slot c.loop-i.-i c.args.n c.args.step c.loop-i-test.true)
+index_mut-requires c = omega (arith, next_slot c.loop-i._i c.args.n c.args.step c.loop-i-test.true)
 
 pub overflow_add-at : goal.overflow_add-at
-overflow_add-at c = omega (arith, next_slot c.loop-i.-i c.args.n c.args.step c.loop-i-test.true, c.args.memory.now.ok.1, c.args.memory.now.small)
+overflow_add-at c = omega (arith, next_slot c.loop-i._i c.args.n c.args.step c.loop-i-test.true, c.args.memory.now.ok.1, c.args.memory.now.small)
 
 pub loop-i-preserved : goal.loop-i-preserved
 loop-i-preserved c =
-    let i = c.loop-i.-i in
+    let i = c.loop-i._i in
     let b = c.args.base in
     let s = c.args.step in
     let m = c.loop-i.memory.items in

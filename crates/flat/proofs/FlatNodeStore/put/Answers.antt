@@ -16,8 +16,8 @@ room_after-room-requires c =
     let n = s.limits in
     let t = get_opened (flat_meaning s) c.args.key.closing.0 c.args.key.place.0 (length c.args.bytes.now) c.in_ok-admit.ensures.0 in
     record {
-      within = omega (arith, c.slot_at.ensures.fits);
-      some = flat_has_room (vec_items s.memory) n.width n.first n.last n.bound c.args.key.closing.0 c.args.key.place.0 s.room c.slot_at.result c.slot_at.ensures.is t.0 s.counts;
+      within = omega (arith, c.slot-at.ensures.fits);
+      some = flat_has_room (vec_items s.memory) n.width n.first n.last n.bound c.args.key.closing.0 c.args.key.place.0 s.room c.slot-at.result c.slot-at.ensures.is t.0 s.counts;
     }
 
 -- the calls' promises together
@@ -43,7 +43,7 @@ invariant_of-self c =
           s.places,
           (
             omega (arith, s.fits, c.write_slot.ensures.len),
-            (put_all (flat_meaning s) _ k p c.args.bytes.now t.0 (key_span n.first n.last n.bound k p t.0) (done s (vec_items c.write_slot.new.memory) k p c.room_after-room.result c.slot_at.result c.args.bytes.now c.in_ok-admit.ensures.0 c.slot_at.ensures.is c.write_slot.ensures.items c.room_after-room.ensures) ∙ s.counts, tt),
+            (put_all (flat_meaning s) _ k p c.args.bytes.now t.0 (key_span n.first n.last n.bound k p t.0) (done s (vec_items c.write_slot.new.memory) k p c.room_after-room.result c.slot-at.result c.args.bytes.now c.in_ok-admit.ensures.0 c.slot-at.ensures.is c.write_slot.ensures.items c.room_after-room.ensures) ∙ s.counts, tt),
           ),
         ),
       ),
@@ -57,4 +57,4 @@ returns c =
     let p = c.args.key.place.0 in
     let t = get_opened (flat_meaning s) k p (length c.args.bytes.now) c.in_ok-admit.ensures.0 in
     let room : (flat_meaning s).find k p ≡ None → 1 ≤ s.room = λ e. omega (arith, s.counts, not_all (flat_meaning s) k p t.0 e) in
-    record { keeps = tt; answers = (put_open (flat_meaning s) k p (length c.args.bytes.now) t.0 t.1 room, done s (vec_items c.write_slot.new.memory) k p c.room_after-room.result c.slot_at.result c.args.bytes.now c.in_ok-admit.ensures.0 c.slot_at.ensures.is c.write_slot.ensures.items c.room_after-room.ensures); refused = tt }
+    record { keeps = tt; answers = (put_open (flat_meaning s) k p (length c.args.bytes.now) t.0 t.1 room, done s (vec_items c.write_slot.new.memory) k p c.room_after-room.result c.slot-at.result c.args.bytes.now c.in_ok-admit.ensures.0 c.slot-at.ensures.is c.write_slot.ensures.items c.room_after-room.ensures); refused = tt }
