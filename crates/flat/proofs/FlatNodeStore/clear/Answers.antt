@@ -41,7 +41,13 @@ pub invariant_of-self : goal.invariant_of-self
 invariant_of-self c =
     let s = c.args.self.now in
     let t = held_open (flat_meaning s) c.args.closing.0 c.in_ok-admit_closing.ensures.0 in
-    (s.narrow, (s.span, (s.places, (omega (arith, s.fits, c.clear_marks.ensures.len), (cleared_all (flat_meaning s) _ c.args.closing.0 t (done s c.clear_marks.new.memory c.args.closing.0 c.count-n.result c.slot-base.result c.in_ok-admit_closing.ensures.0 c.slot-base.ensures.is c.clear_marks.ensures.len c.clear_marks.ensures.marks c.clear_marks.ensures.rest c.count-n.ensures) ∙ s.counts, tt)))))
+    record {
+      narrow = s.narrow;
+      span = s.span;
+      places = s.places;
+      fits = omega (arith, s.fits, c.clear_marks.ensures.len);
+      counts = cleared_all (flat_meaning s) _ c.args.closing.0 t (done s c.clear_marks.new.memory c.args.closing.0 c.count-n.result c.slot-base.result c.in_ok-admit_closing.ensures.0 c.slot-base.ensures.is c.clear_marks.ensures.len c.clear_marks.ensures.marks c.clear_marks.ensures.rest c.count-n.ensures) ∙ s.counts;
+    }
 
 pub returns : goal.returns
 returns c = let s = c.args.self.now in record { keeps = tt; answers = (c.in_ok-admit_closing.ensures.0, done s c.clear_marks.new.memory c.args.closing.0 c.count-n.result c.slot-base.result c.in_ok-admit_closing.ensures.0 c.slot-base.ensures.is c.clear_marks.ensures.len c.clear_marks.ensures.marks c.clear_marks.ensures.rest c.count-n.ensures); refused = tt }

@@ -35,19 +35,14 @@ invariant_of-self c =
     let n = s.limits in
     let k = c.args.key.closing.0 in
     let p = c.args.key.place.0 in
-    let t = get_opened (flat_meaning s) k p (length c.args.bytes.now) c.in_ok-admit.ensures.0 in (
-      s.narrow,
-      (
-        s.span,
-        (
-          s.places,
-          (
-            omega (arith, s.fits, c.write_slot.ensures.len),
-            (put_all (flat_meaning s) _ k p c.args.bytes.now t.0 (key_span n.first n.last n.bound k p t.0) (done s (vec_items c.write_slot.new.memory) k p c.room_after-room.result c.slot-at.result c.args.bytes.now c.in_ok-admit.ensures.0 c.slot-at.ensures.is c.write_slot.ensures.items c.room_after-room.ensures) ∙ s.counts, tt),
-          ),
-        ),
-      ),
-    )
+    let t = get_opened (flat_meaning s) k p (length c.args.bytes.now) c.in_ok-admit.ensures.0 in
+    record {
+      narrow = s.narrow;
+      span = s.span;
+      places = s.places;
+      fits = omega (arith, s.fits, c.write_slot.ensures.len);
+      counts = put_all (flat_meaning s) _ k p c.args.bytes.now t.0 (key_span n.first n.last n.bound k p t.0) (done s (vec_items c.write_slot.new.memory) k p c.room_after-room.result c.slot-at.result c.args.bytes.now c.in_ok-admit.ensures.0 c.slot-at.ensures.is c.write_slot.ensures.items c.room_after-room.ensures) ∙ s.counts;
+    }
 
 pub returns : goal.returns
 returns c =

@@ -37,7 +37,7 @@ loop-i-preserved c =
     ]
 
 pub invariant_of-self : goal.invariant_of-self
-invariant_of-self c = ((omega (arith, c.args.self.now.few), c.loop-i.invariant.1), tt)
+invariant_of-self c = record { few = (omega (arith, c.args.self.now.few), c.loop-i.invariant.1) }
 
 pub returns : goal.returns
 returns c =

@@ -15,34 +15,19 @@ invariant_of-result c =
     let n = c.args.limits in
     let v = chained_fits n.width n.first n.last n.bound c.args.count (vec_len c.args.memory) c.requires in
     let m : List ℕ = vec_items c.relay_in.new.memory in
-    let laid = c.relay_in.ensures.laid in (
-      (v.0.wide, v.0.narrow),
-      (
-        (v.0.starts, v.0.ends),
-        (
-          (v.0.two, v.0.most),
-          (
-            (omega arith, v.2),
-            (
-              (λ _. v.1),
-              (
-                (λ z. let q : ⊥ = omega (arith, v.0.some) in absurd q),
-                (
-                  (λ _. omega (arith, v.3, c.relay_in.ensures.len)),
-                  (
-                    (λ _. laid_heads m n.width c.args.count laid),
-                    (
-                      c.relay_in.ensures.nexts,
-                      ((λ _. ∣ new_linked (vec_items c.args.memory) m n.width c.args.count n.first n.last n.bound 0 v.0.starts laid c.relay_in.ensures.forgot ∣₁), tt),
-                    ),
-                  ),
-                ),
-              ),
-            ),
-          ),
-        ),
-      ),
-    )
+    let laid = c.relay_in.ensures.laid in
+    record {
+      narrow = (v.0.wide, v.0.narrow);
+      span = (v.0.starts, v.0.ends);
+      places = (v.0.two, v.0.most);
+      few = (omega arith, v.2);
+      alive = (λ _. v.1);
+      shut = (λ z. let q : ⊥ = omega (arith, v.0.some) in absurd q);
+      fits = (λ _. omega (arith, v.3, c.relay_in.ensures.len));
+      heads = (λ _. laid_heads m n.width c.args.count laid);
+      nexts = c.relay_in.ensures.nexts;
+      linked = (λ _. ∣ new_linked (vec_items c.args.memory) m n.width c.args.count n.first n.last n.bound 0 v.0.starts laid c.relay_in.ensures.forgot ∣₁);
+    }
 
 pub returns : goal.returns
 returns c =

@@ -24,37 +24,19 @@ invariant_of-self c =
     let m : List ℕ = vec_items s.memory in
     let m' : List ℕ = vec_items c.relay_in-n.new.memory in
     let one : 1 ≤ s.count = s.alive (omega arith) in
-    let e = c.relay_in-n.ensures.is in (
-      s.narrow,
-      (
-        s.span,
-        (
-          s.places,
-          (
-            (∥∥₁_elim (s.linked one) le_prop (λ k. omega (arith, e, clear_few m m' s.limits.width s.count s.limits.first s.limits.last s.limits.bound s.room a k s.span.0 (omega arith) c.relay_in-n.ensures.laid c.relay_in-n.ensures.forgot)), s.few.1),
-            (
-              s.alive,
-              (
-                (λ z. let q : ⊥ = omega arith in absurd q),
-                (
-                  (λ _. omega (arith, s.fits one, c.relay_in-n.ensures.len)),
-                  (
-                    (λ _. laid_heads m' s.limits.width s.count c.relay_in-n.ensures.laid),
-                    (
-                      c.relay_in-n.ensures.nexts,
-                      (
-                        (λ _. ∥∥₁_map (s.linked one) (λ k. subst (λ z. Linked m' s.limits.width s.count s.limits.first s.limits.last s.limits.bound (s.room + z)) (sym e) (clear_linked m m' s.limits.width s.count s.limits.first s.limits.last s.limits.bound s.room a k s.span.0 (omega arith) c.relay_in-n.ensures.laid c.relay_in-n.ensures.forgot))),
-                        tt,
-                      ),
-                    ),
-                  ),
-                ),
-              ),
-            ),
-          ),
-        ),
-      ),
-    )
+    let e = c.relay_in-n.ensures.is in
+    record {
+      narrow = s.narrow;
+      span = s.span;
+      places = s.places;
+      few = (∥∥₁_elim (s.linked one) le_prop (λ k. omega (arith, e, clear_few m m' s.limits.width s.count s.limits.first s.limits.last s.limits.bound s.room a k s.span.0 (omega arith) c.relay_in-n.ensures.laid c.relay_in-n.ensures.forgot)), s.few.1);
+      alive = s.alive;
+      shut = (λ z. let q : ⊥ = omega arith in absurd q);
+      fits = (λ _. omega (arith, s.fits one, c.relay_in-n.ensures.len));
+      heads = (λ _. laid_heads m' s.limits.width s.count c.relay_in-n.ensures.laid);
+      nexts = c.relay_in-n.ensures.nexts;
+      linked = (λ _. ∥∥₁_map (s.linked one) (λ k. subst (λ z. Linked m' s.limits.width s.count s.limits.first s.limits.last s.limits.bound (s.room + z)) (sym e) (clear_linked m m' s.limits.width s.count s.limits.first s.limits.last s.limits.bound s.room a k s.span.0 (omega arith) c.relay_in-n.ensures.laid c.relay_in-n.ensures.forgot)));
+    }
 
 pub returns : goal.returns
 returns c =

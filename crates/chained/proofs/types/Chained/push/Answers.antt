@@ -33,37 +33,19 @@ invariant_of-self c =
     let e : vec_items c.push_in.new.memory ≡ push_on m s.limits.width (head_at m 0) (bucket_of a p) a p r =
     c.push_in.ensures.items s.limits.width c.at-at.ensures.is ∙ ap (λ x. push_on m s.limits.width x (bucket_of a p) a p r) c.head-x.ensures in
     let one : 1 ≤ s.count = omega arith in
-    let fits : 68 + s.count * (12 + s.limits.width) ≤ length m = omega (arith, s.fits one, s.memory.ok.0) in (
-      s.narrow,
-      (
-        s.span,
-        (
-          s.places,
-          (
-            (omega arith, s.few.1),
-            (
-              s.alive,
-              (
-                (λ z. let q : ⊥ = omega (arith, key_out s.limits.first s.limits.last s.limits.bound a p c.requires.inside) in absurd q),
-                (
-                  (λ _. omega (arith, s.fits one, c.push_in.ensures.len)),
-                  (
-                    (λ _ j h. ∥∥₁_elim (s.linked one) le_prop (λ k. subst (λ xs. head_at xs j ≤ s.count) (sym e) (push_heads m s.limits.width s.count s.limits.first s.limits.last s.limits.bound s.room a p r k fits s.span.0 c.requires.inside c.requires.wide c.requires.absent c.requires.some s.nexts (s.heads one) j h))),
-                    (
-                      (λ i u v. ∥∥₁_elim (s.linked one) le_prop (λ k. subst (λ xs. next_at xs s.limits.width i ≤ s.count) (sym e) (push_nexts m s.limits.width s.count s.limits.first s.limits.last s.limits.bound s.room a p r k fits s.span.0 c.requires.inside c.requires.wide c.requires.absent c.requires.some s.nexts (s.heads one) i u v))),
-                      (
-                        (λ _. ∥∥₁_map (s.linked one) (λ k. subst (λ xs. Linked xs s.limits.width s.count s.limits.first s.limits.last s.limits.bound (s.room - 1)) (sym e) (push_linked m s.limits.width s.count s.limits.first s.limits.last s.limits.bound s.room a p r k fits s.span.0 c.requires.inside c.requires.wide c.requires.absent c.requires.some))),
-                        tt,
-                      ),
-                    ),
-                  ),
-                ),
-              ),
-            ),
-          ),
-        ),
-      ),
-    )
+    let fits : 68 + s.count * (12 + s.limits.width) ≤ length m = omega (arith, s.fits one, s.memory.ok.0) in
+    record {
+      narrow = s.narrow;
+      span = s.span;
+      places = s.places;
+      few = (omega arith, s.few.1);
+      alive = s.alive;
+      shut = (λ z. let q : ⊥ = omega (arith, key_out s.limits.first s.limits.last s.limits.bound a p c.requires.inside) in absurd q);
+      fits = (λ _. omega (arith, s.fits one, c.push_in.ensures.len));
+      heads = (λ _ j h. ∥∥₁_elim (s.linked one) le_prop (λ k. subst (λ xs. head_at xs j ≤ s.count) (sym e) (push_heads m s.limits.width s.count s.limits.first s.limits.last s.limits.bound s.room a p r k fits s.span.0 c.requires.inside c.requires.wide c.requires.absent c.requires.some s.nexts (s.heads one) j h)));
+      nexts = (λ i u v. ∥∥₁_elim (s.linked one) le_prop (λ k. subst (λ xs. next_at xs s.limits.width i ≤ s.count) (sym e) (push_nexts m s.limits.width s.count s.limits.first s.limits.last s.limits.bound s.room a p r k fits s.span.0 c.requires.inside c.requires.wide c.requires.absent c.requires.some s.nexts (s.heads one) i u v)));
+      linked = (λ _. ∥∥₁_map (s.linked one) (λ k. subst (λ xs. Linked xs s.limits.width s.count s.limits.first s.limits.last s.limits.bound (s.room - 1)) (sym e) (push_linked m s.limits.width s.count s.limits.first s.limits.last s.limits.bound s.room a p r k fits s.span.0 c.requires.inside c.requires.wide c.requires.absent c.requires.some)));
+    }
 
 pub returns : goal.returns
 returns c =

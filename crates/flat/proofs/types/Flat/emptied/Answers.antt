@@ -10,7 +10,13 @@ invariant_of-result c =
     let v = flat_fits n.width n.first n.last n.bound (vec_len c.args.memory) c.requires in
     let none = none_found (vec_items c.clear_marks.new.memory) n.width n.first n.last n.bound c.clear_marks.ensures.marks in
     let held = none_held (flat_of (vec_items c.clear_marks.new.memory) n.width n.first n.last n.bound (flat_room n.first n.last n.bound)) none in
-    ((v.0.wide, v.0.narrow), ((v.0.starts, v.0.ends), ((v.0.two, v.0.most), (omega (arith, v.1, c.clear_marks.ensures.len), (omega (arith, held), tt)))))
+    record {
+      narrow = (v.0.wide, v.0.narrow);
+      span = (v.0.starts, v.0.ends);
+      places = (v.0.two, v.0.most);
+      fits = omega (arith, v.1, c.clear_marks.ensures.len);
+      counts = omega (arith, held);
+    }
 
 pub returns : goal.returns
 returns c =
