@@ -9,6 +9,7 @@ ghost use Rattle.std.proofs.Common.{arith, rules};
 
 use amount::{Amount, MOST};
 use refusal::cases::Refusal;
+use single::Single;
 
 // Cents in four fixed currencies, each number below 2^63.
 #[derive(Clone, Copy)]
@@ -101,10 +102,10 @@ impl Amount for Purse {
         if bytes.len() != 32 {
             return Err(Refusal::BadAmount(0));
         }
-        let a = <single::Single as Amount>::read(&bytes[0..8])?;
-        let b = <single::Single as Amount>::read(&bytes[8..16])?;
-        let c = <single::Single as Amount>::read(&bytes[16..24])?;
-        let d = <single::Single as Amount>::read(&bytes[24..32])?;
+        let a = Single::read(&bytes[0..8])?;
+        let b = Single::read(&bytes[8..16])?;
+        let c = Single::read(&bytes[16..24])?;
+        let d = Single::read(&bytes[24..32])?;
         Ok(Purse {
             cents: [a.cents, b.cents, c.cents, d.cents],
         })
