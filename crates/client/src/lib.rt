@@ -20,13 +20,13 @@ use store::NodeStore;
 
 // Puts a record at one of the places 1 to n, where the room is enough for what is missing there: never refused.
 fn must_put<S: NodeStore>(store: &mut S, key: Key, n: u32, bytes: &[u8])
-    requires sound { ok store.old }
-    requires within { inside (meaning store.old) key.closing.0 key.place.0 ≡ true }
+    requires sound { S.ok store.old }
+    requires within { inside (S.meaning store.old) key.closing.0 key.place.0 ≡ true }
     requires low { key.place.0 ≤ n }
-    requires wide { length bytes.now ≡ (meaning store.old).width }
-    requires room { missing (meaning store.old) key.closing.0 n ≤ (meaning store.old).room }
-    ensures keeps { ok store.new }
-    ensures is { Put (meaning store.old) (meaning store.new) key.closing.0 key.place.0 bytes.now }
+    requires wide { length bytes.now ≡ (S.meaning store.old).width }
+    requires room { missing (S.meaning store.old) key.closing.0 n ≤ (S.meaning store.old).room }
+    ensures keeps { S.ok store.new }
+    ensures is { Put (S.meaning store.old) (S.meaning store.new) key.closing.0 key.place.0 bytes.now }
 {
     match store.put(key, bytes) {
         Ok(()) => {}
@@ -36,10 +36,10 @@ fn must_put<S: NodeStore>(store: &mut S, key: Key, n: u32, bytes: &[u8])
 
 // Forgets a closing of the span: never refused.
 fn must_clear<S: NodeStore>(store: &mut S, closing: Closing)
-    requires sound { ok store.old }
-    requires within { in_span (meaning store.old) closing.0 ≡ true }
-    ensures keeps { ok store.new }
-    ensures is { Cleared (meaning store.old) (meaning store.new) closing.0 }
+    requires sound { S.ok store.old }
+    requires within { in_span (S.meaning store.old) closing.0 ≡ true }
+    ensures keeps { S.ok store.new }
+    ensures is { Cleared (S.meaning store.old) (S.meaning store.new) closing.0 }
 {
     match store.clear(closing) {
         Ok(()) => {}
@@ -49,14 +49,14 @@ fn must_clear<S: NodeStore>(store: &mut S, closing: Closing)
 
 // Puts one record at each place from 1 to n of a closing in which nothing is written.
 fn put_each<S: NodeStore>(store: &mut S, closing: Closing, n: u32, bytes: &[u8])
-    requires sound { ok store.old }
-    requires within { in_span (meaning store.old) closing.0 ≡ true }
-    requires below { n < (meaning store.old).bound }
-    requires wide { length bytes.now ≡ (meaning store.old).width }
-    requires absent { (p : ℕ) → (meaning store.old).find closing.0 p ≡ None }
-    requires room { n ≤ (meaning store.old).room }
-    ensures keeps { ok store.new }
-    ensures is { Filled (meaning store.old) (meaning store.new) closing.0 n bytes.now }
+    requires sound { S.ok store.old }
+    requires within { in_span (S.meaning store.old) closing.0 ≡ true }
+    requires below { n < (S.meaning store.old).bound }
+    requires wide { length bytes.now ≡ (S.meaning store.old).width }
+    requires absent { (p : ℕ) → (S.meaning store.old).find closing.0 p ≡ None }
+    requires room { n ≤ (S.meaning store.old).room }
+    ensures keeps { S.ok store.new }
+    ensures is { Filled (S.meaning store.old) (S.meaning store.new) closing.0 n bytes.now }
 {
     for i in 0..n {
         must_put(
@@ -78,8 +78,8 @@ fn admit_fill<S: NodeStore>(
     n: u32,
     width: usize,
 ) -> Result<(), Refusal>
-    requires { ok store.now }
-    ensures { Answers result (fill_refusal (meaning store.now) closing.0 n width) (λ _. Unit {0}) }
+    requires { S.ok store.now }
+    ensures { Answers result (fill_refusal (S.meaning store.now) closing.0 n width) (λ _. Unit {0}) }
 {
     let limits = store.limits();
     let held = store.held(closing)?;
@@ -102,12 +102,12 @@ pub fn fill_closing<S: NodeStore>(
     n: u32,
     bytes: &[u8],
 ) -> Result<(), Refusal>
-    requires { ok store.old }
-    ensures keeps { ok store.new }
+    requires { S.ok store.old }
+    ensures keeps { S.ok store.new }
     ensures answers { Answers result
-        (fill_refusal (meaning store.old) closing.0 n (length bytes.now))
-        (λ _. Filled (meaning store.old) (meaning store.new) closing.0 n bytes.now) }
-    ensures refused { Refused result (meaning store.new ≡ meaning store.old) }
+        (fill_refusal (S.meaning store.old) closing.0 n (length bytes.now))
+        (λ _. Filled (S.meaning store.old) (S.meaning store.new) closing.0 n bytes.now) }
+    ensures refused { Refused result (S.meaning store.new ≡ S.meaning store.old) }
 {
     admit_fill(store, closing, n, bytes.len())?;
     must_clear(store, closing);
@@ -125,8 +125,8 @@ fn holds_places(bound: u32, depth: u32) -> bool
 
 // Whether a store has records of a width, and keys for every place of a tree of a depth under a closing.
 pub fn suits<S: NodeStore>(store: &S, width: usize, closing: Closing, depth: u32) -> bool
-    requires { ok store.now }
-    ensures { result ≡ suits_tree (meaning store.now) width closing.0 depth }
+    requires { S.ok store.now }
+    ensures { result ≡ suits_tree (S.meaning store.now) width closing.0 depth }
 {
     let limits = store.limits();
     limits.width == width
@@ -137,11 +137,11 @@ pub fn suits<S: NodeStore>(store: &S, width: usize, closing: Closing, depth: u32
 
 // Fills the buffer with the record under a key; false, and the buffer stays, where there is none for it.
 pub fn fetch<S: NodeStore>(store: &mut S, key: Key, into: &mut [u8]) -> bool
-    requires { ok store.old }
-    ensures keeps { ok store.new }
-    ensures same { meaning store.new ≡ meaning store.old }
-    ensures found { result ≡ is_some (fetched (meaning store.old) key.closing.0 key.place.0 (length into.old)) }
-    ensures filled { into.new ≡ unwrap_or (fetched (meaning store.old) key.closing.0 key.place.0 (length into.old)) into.old }
+    requires { S.ok store.old }
+    ensures keeps { S.ok store.new }
+    ensures same { S.meaning store.new ≡ S.meaning store.old }
+    ensures found { result ≡ is_some (fetched (S.meaning store.old) key.closing.0 key.place.0 (length into.old)) }
+    ensures filled { into.new ≡ unwrap_or (fetched (S.meaning store.old) key.closing.0 key.place.0 (length into.old)) into.old }
 {
     match store.get(key, into) {
         Ok(found) => found,
@@ -151,22 +151,22 @@ pub fn fetch<S: NodeStore>(store: &mut S, key: Key, into: &mut [u8]) -> bool
 
 // Sets the record under a key where the store does not refuse it; otherwise nothing changes.
 pub fn keep<S: NodeStore>(store: &mut S, key: Key, bytes: &[u8])
-    requires { ok store.old }
-    ensures keeps { ok store.new }
-    ensures is { put_refusal (meaning store.old) key.closing.0 key.place.0 (length bytes.now) ≡ None
-        → Put (meaning store.old) (meaning store.new) key.closing.0 key.place.0 bytes.now }
-    ensures refused { (e : RefusalSaid) → put_refusal (meaning store.old) key.closing.0 key.place.0 (length bytes.now) ≡ Some e
-        → meaning store.new ≡ meaning store.old }
+    requires { S.ok store.old }
+    ensures keeps { S.ok store.new }
+    ensures is { put_refusal (S.meaning store.old) key.closing.0 key.place.0 (length bytes.now) ≡ None
+        → Put (S.meaning store.old) (S.meaning store.new) key.closing.0 key.place.0 bytes.now }
+    ensures refused { (e : RefusalSaid) → put_refusal (S.meaning store.old) key.closing.0 key.place.0 (length bytes.now) ≡ Some e
+        → S.meaning store.new ≡ S.meaning store.old }
 {
     let _ = store.put(key, bytes);
 }
 
 // Forgets a closing of the span; otherwise nothing changes.
 pub fn forget<S: NodeStore>(store: &mut S, closing: Closing)
-    requires { ok store.old }
-    ensures keeps { ok store.new }
-    ensures is { in_span (meaning store.old) closing.0 ≡ true → Cleared (meaning store.old) (meaning store.new) closing.0 }
-    ensures refused { in_span (meaning store.old) closing.0 ≡ false → meaning store.new ≡ meaning store.old }
+    requires { S.ok store.old }
+    ensures keeps { S.ok store.new }
+    ensures is { in_span (S.meaning store.old) closing.0 ≡ true → Cleared (S.meaning store.old) (S.meaning store.new) closing.0 }
+    ensures refused { in_span (S.meaning store.old) closing.0 ≡ false → S.meaning store.new ≡ S.meaning store.old }
 {
     let _ = store.clear(closing);
 }

@@ -60,8 +60,8 @@ pub struct Declined<A, D, N, L> {
 
 // Whether a store can take so many records under a closing, once that is cleared.
 fn has_room<S: NodeStore>(store: &S, closing: Closing, need: u32) -> bool
-    requires { ok store.now }
-    ensures { in_span (meaning store.now) closing.0 ≡ true → result ≡ not (nat_lt ((meaning store.now).room + held (meaning store.now) closing.0) need) }
+    requires { S.ok store.now }
+    ensures { in_span (S.meaning store.now) closing.0 ≡ true → result ≡ not (nat_lt ((S.meaning store.now).room + held (S.meaning store.now) closing.0) need) }
 {
     let held = store.held(closing).unwrap_or(0);
     store.room().saturating_add(held as u64) >= need as u64
@@ -73,7 +73,7 @@ impl<A: Amount, D: Digest, N: NodeStore, L: NodeStore> Custodian<A, D, N, L> {
     // lines that were entered between its opening and its closing.
     pub fn new(digest: D, nodes: N, leaves: L) -> Self
         ensures parts { (result.digest ≡ digest) × (result.nodes ≡ nodes) × (result.leaves ≡ leaves) }
-        ensures is { Keeps A.Amount.kind (D.Digest.hash digest) (N.NodeStore.meaning nodes) (L.NodeStore.meaning leaves) (take result.roll.len result.roll.rows) (new_state (N.NodeStore.meaning nodes) (L.NodeStore.meaning leaves)) }
+        ensures is { Keeps A.kind (D.hash digest) (N.meaning nodes) (L.meaning leaves) (take result.roll.len result.roll.rows) (new_state (N.meaning nodes) (L.meaning leaves)) }
         ensures standings { StandingsHold }
         ensures lines { LinesAccount }
     {
@@ -102,22 +102,22 @@ impl<A: Amount, D: Digest, N: NodeStore, L: NodeStore> Custodian<A, D, N, L> {
 
     // Whether a closing stands.
     fn stands(&self, closing: Closing) -> bool
-        ensures { (s : State) → Keeps A.Amount.kind (D.Digest.hash self.now.digest) (N.NodeStore.meaning self.now.nodes) (L.NodeStore.meaning self.now.leaves) (take self.now.roll.len self.now.roll.rows) s → result ≡ is_some (stands_under closing.0 s.standing) }
+        ensures { (s : State) → Keeps A.kind (D.hash self.now.digest) (N.meaning self.now.nodes) (L.meaning self.now.leaves) (take self.now.roll.len self.now.roll.rows) s → result ≡ is_some (stands_under closing.0 s.standing) }
     {
         self.roll.find(closing).is_some()
     }
 
     // Whether eight closings stand.
     fn is_full(&self) -> bool
-        ensures { (s : State) → Keeps A.Amount.kind (D.Digest.hash self.now.digest) (N.NodeStore.meaning self.now.nodes) (L.NodeStore.meaning self.now.leaves) (take self.now.roll.len self.now.roll.rows) s → result ≡ nat_le 8 (length s.standing) }
+        ensures { (s : State) → Keeps A.kind (D.hash self.now.digest) (N.meaning self.now.nodes) (L.meaning self.now.leaves) (take self.now.roll.len self.now.roll.rows) s → result ≡ nat_le 8 (length s.standing) }
     {
         self.roll.len() >= 8
     }
 
     // Whether both stores suit a closing at a depth.
     fn suit(&self, closing: Closing, depth: u32) -> bool
-        requires { (N.NodeStore.ok self.now.nodes) × (L.NodeStore.ok self.now.leaves) }
-        ensures { result ≡ suits_tree (N.NodeStore.meaning self.now.nodes) (32 + A.Amount.kind.width) closing.0 depth && suits_tree (L.NodeStore.meaning self.now.leaves) (37 + A.Amount.kind.width) closing.0 depth }
+        requires { (N.ok self.now.nodes) × (L.ok self.now.leaves) }
+        ensures { result ≡ suits_tree (N.meaning self.now.nodes) (32 + A.kind.width) closing.0 depth && suits_tree (L.meaning self.now.leaves) (37 + A.kind.width) closing.0 depth }
     {
         let width = A::width();
         suits(&self.nodes, 32 + width, closing, depth)
@@ -126,11 +126,11 @@ impl<A: Amount, D: Digest, N: NodeStore, L: NodeStore> Custodian<A, D, N, L> {
 
     // Whether either store has too little room for a closing at a depth.
     fn no_room(&self, closing: Closing, depth: u32) -> bool
-        requires ok { (N.NodeStore.ok self.now.nodes) × (L.NodeStore.ok self.now.leaves) }
+        requires ok { (N.ok self.now.nodes) × (L.ok self.now.leaves) }
         requires deep { depth ≤ 20 }
-        ensures { in_span (N.NodeStore.meaning self.now.nodes) closing.0 ≡ true → in_span (L.NodeStore.meaning self.now.leaves) closing.0 ≡ true
-            → result ≡ (nat_lt ((N.NodeStore.meaning self.now.nodes).room + held (N.NodeStore.meaning self.now.nodes) closing.0) (2 ^ (depth + 1) - 1)
-            || nat_lt ((L.NodeStore.meaning self.now.leaves).room + held (L.NodeStore.meaning self.now.leaves) closing.0) (2 ^ depth)) }
+        ensures { in_span (N.meaning self.now.nodes) closing.0 ≡ true → in_span (L.meaning self.now.leaves) closing.0 ≡ true
+            → result ≡ (nat_lt ((N.meaning self.now.nodes).room + held (N.meaning self.now.nodes) closing.0) (2 ^ (depth + 1) - 1)
+            || nat_lt ((L.meaning self.now.leaves).room + held (L.meaning self.now.leaves) closing.0) (2 ^ depth)) }
     {
         let leaves = leaf_count(depth);
         !has_room(&self.nodes, closing, 2 * leaves - 1) || !has_room(&self.leaves, closing, leaves)
@@ -138,10 +138,10 @@ impl<A: Amount, D: Digest, N: NodeStore, L: NodeStore> Custodian<A, D, N, L> {
 
     // Whether a closing can be opened, by the table of refusals.
     fn admit(&self, closing: Closing, depth: u32) -> Result<(), Refusal>
-        requires { (N.NodeStore.ok self.now.nodes) × (L.NodeStore.ok self.now.leaves) }
+        requires { (N.ok self.now.nodes) × (L.ok self.now.leaves) }
         ensures deep { OnOk result (depth ≤ 20) }
-        ensures table { (s : State) → Keeps A.Amount.kind (D.Digest.hash self.now.digest) (N.NodeStore.meaning self.now.nodes) (L.NodeStore.meaning self.now.leaves) (take self.now.roll.len self.now.roll.rows) s
-            → Answers result (open_refusal A.Amount.kind s closing.0 depth) (λ _. Unit {0}) }
+        ensures table { (s : State) → Keeps A.kind (D.hash self.now.digest) (N.meaning self.now.nodes) (L.meaning self.now.leaves) (take self.now.roll.len self.now.roll.rows) s
+            → Answers result (open_refusal A.kind s closing.0 depth) (λ _. Unit {0}) }
     {
         if bad_limits(closing, depth) {
             return Err(Refusal::BadLimits);
@@ -168,16 +168,16 @@ impl<A: Amount, D: Digest, N: NodeStore, L: NodeStore> Custodian<A, D, N, L> {
         closing: Closing,
         depth: u32,
     ) -> Result<Ledger<A, D, N, L>, Declined<A, D, N, L>>
-        requires { (N.NodeStore.ok self.nodes) × (L.NodeStore.ok self.leaves) }
-        ensures keeps { MatchResult result (λ l. (N.NodeStore.ok l.of.nodes × L.NodeStore.ok l.of.leaves)) (λ d. (N.NodeStore.ok d.back.nodes × L.NodeStore.ok d.back.leaves)) }
+        requires { (N.ok self.nodes) × (L.ok self.leaves) }
+        ensures keeps { MatchResult result (λ l. (N.ok l.of.nodes × L.ok l.of.leaves)) (λ d. (N.ok d.back.nodes × L.ok d.back.leaves)) }
         ensures digest { MatchResult result (λ l. l.of.digest ≡ self.digest) (λ d. d.back.digest ≡ self.digest) }
-        ensures refused { IfErr result (λ d. (N.NodeStore.meaning d.back.nodes ≡ N.NodeStore.meaning self.nodes) × (L.NodeStore.meaning d.back.leaves ≡ L.NodeStore.meaning self.leaves)) }
-        ensures answers { (s : State) → Keeps A.Amount.kind (D.Digest.hash self.digest) (N.NodeStore.meaning self.nodes) (L.NodeStore.meaning self.leaves) (take self.roll.len self.roll.rows) s → s.ledger ≡ None
-            → told (λ _. Opened) (λ d. d.why) result ≡ answer A.Amount.kind (D.Digest.hash self.digest) s (Open closing.0 depth) }
-        ensures opened { (s : State) → Keeps A.Amount.kind (D.Digest.hash self.digest) (N.NodeStore.meaning self.nodes) (L.NodeStore.meaning self.leaves) (take self.roll.len self.roll.rows) s → s.ledger ≡ None
-            → MatchResult result (λ l. Cleared (N.NodeStore.meaning self.nodes) (N.NodeStore.meaning l.of.nodes) closing.0 × Cleared (L.NodeStore.meaning self.leaves) (L.NodeStore.meaning l.of.leaves) closing.0
-            × KeepsOpen A.Amount.kind (D.Digest.hash l.of.digest) (N.NodeStore.meaning l.of.nodes) (L.NodeStore.meaning l.of.leaves) (take l.of.roll.len l.of.roll.rows) l.closing.0 l.depth l.lines (A.Amount.meaning l.total) (next A.Amount.kind s (Open closing.0 depth)))
-            (λ d. Keeps A.Amount.kind (D.Digest.hash d.back.digest) (N.NodeStore.meaning d.back.nodes) (L.NodeStore.meaning d.back.leaves) (take d.back.roll.len d.back.roll.rows) (next A.Amount.kind s (Open closing.0 depth))) }
+        ensures refused { IfErr result (λ d. (N.meaning d.back.nodes ≡ N.meaning self.nodes) × (L.meaning d.back.leaves ≡ L.meaning self.leaves)) }
+        ensures answers { (s : State) → Keeps A.kind (D.hash self.digest) (N.meaning self.nodes) (L.meaning self.leaves) (take self.roll.len self.roll.rows) s → s.ledger ≡ None
+            → told (λ _. Opened) (λ d. d.why) result ≡ answer A.kind (D.hash self.digest) s (Open closing.0 depth) }
+        ensures opened { (s : State) → Keeps A.kind (D.hash self.digest) (N.meaning self.nodes) (L.meaning self.leaves) (take self.roll.len self.roll.rows) s → s.ledger ≡ None
+            → MatchResult result (λ l. Cleared (N.meaning self.nodes) (N.meaning l.of.nodes) closing.0 × Cleared (L.meaning self.leaves) (L.meaning l.of.leaves) closing.0
+            × KeepsOpen A.kind (D.hash l.of.digest) (N.meaning l.of.nodes) (L.meaning l.of.leaves) (take l.of.roll.len l.of.roll.rows) l.closing.0 l.depth l.lines (A.meaning l.total) (next A.kind s (Open closing.0 depth)))
+            (λ d. Keeps A.kind (D.hash d.back.digest) (N.meaning d.back.nodes) (L.meaning d.back.leaves) (take d.back.roll.len d.back.roll.rows) (next A.kind s (Open closing.0 depth))) }
     {
         if let Err(why) = self.admit(closing, depth) {
             return Err(Declined { back: self, why });
@@ -208,11 +208,11 @@ impl<A: Amount, D: Digest, N: NodeStore, L: NodeStore> Custodian<A, D, N, L> {
 
     // Forgets a closing in both stores.
     fn forget_both(&mut self, closing: Closing)
-        requires { (N.NodeStore.ok self.old.nodes) × (L.NodeStore.ok self.old.leaves) }
-        ensures keeps { N.NodeStore.ok self.new.nodes × L.NodeStore.ok self.new.leaves }
+        requires { (N.ok self.old.nodes) × (L.ok self.old.leaves) }
+        ensures keeps { N.ok self.new.nodes × L.ok self.new.leaves }
         ensures rest { (self.new.digest ≡ self.old.digest) × (self.new.roll ≡ self.old.roll) }
-        ensures nodes { in_span (N.NodeStore.meaning self.old.nodes) closing.0 ≡ true → Cleared (N.NodeStore.meaning self.old.nodes) (N.NodeStore.meaning self.new.nodes) closing.0 }
-        ensures leaves { in_span (L.NodeStore.meaning self.old.leaves) closing.0 ≡ true → Cleared (L.NodeStore.meaning self.old.leaves) (L.NodeStore.meaning self.new.leaves) closing.0 }
+        ensures nodes { in_span (N.meaning self.old.nodes) closing.0 ≡ true → Cleared (N.meaning self.old.nodes) (N.meaning self.new.nodes) closing.0 }
+        ensures leaves { in_span (L.meaning self.old.leaves) closing.0 ≡ true → Cleared (L.meaning self.old.leaves) (L.meaning self.new.leaves) closing.0 }
     {
         forget(&mut self.nodes, closing);
         forget(&mut self.leaves, closing);
@@ -221,14 +221,14 @@ impl<A: Amount, D: Digest, N: NodeStore, L: NodeStore> Custodian<A, D, N, L> {
     // Writes the sheet of a closing that stands, and answers its length. What is written fills its own length and leaves the
     // rest of the buffer; a refusal leaves all of it.
     pub fn sheet(&mut self, closing: Closing, out: &mut [u8]) -> Result<usize, Refusal>
-        requires { (N.NodeStore.ok self.old.nodes) × (L.NodeStore.ok self.old.leaves) }
-        ensures keeps { N.NodeStore.ok self.new.nodes × L.NodeStore.ok self.new.leaves }
+        requires { (N.ok self.old.nodes) × (L.ok self.old.leaves) }
+        ensures keeps { N.ok self.new.nodes × L.ok self.new.leaves }
         ensures digest { self.new.digest ≡ self.old.digest }
-        ensures same { (N.NodeStore.meaning self.new.nodes ≡ N.NodeStore.meaning self.old.nodes) × (L.NodeStore.meaning self.new.leaves ≡ L.NodeStore.meaning self.old.leaves) }
+        ensures same { (N.meaning self.new.nodes ≡ N.meaning self.old.nodes) × (L.meaning self.new.leaves ≡ L.meaning self.old.leaves) }
         ensures refused { Refused result (out.new ≡ out.old) }
-        ensures answers { (s : State) → Keeps A.Amount.kind (D.Digest.hash self.old.digest) (N.NodeStore.meaning self.old.nodes) (L.NodeStore.meaning self.old.leaves) (take self.old.roll.len self.old.roll.rows) s
-            → told (λ n. Wrote n out.new) (λ why. why) result ≡ answer A.Amount.kind (D.Digest.hash self.old.digest) s (Write closing.0 out.old) }
-        ensures stays { (s : State) → Keeps A.Amount.kind (D.Digest.hash self.old.digest) (N.NodeStore.meaning self.old.nodes) (L.NodeStore.meaning self.old.leaves) (take self.old.roll.len self.old.roll.rows) s → Keeps A.Amount.kind (D.Digest.hash self.new.digest) (N.NodeStore.meaning self.new.nodes) (L.NodeStore.meaning self.new.leaves) (take self.new.roll.len self.new.roll.rows) s }
+        ensures answers { (s : State) → Keeps A.kind (D.hash self.old.digest) (N.meaning self.old.nodes) (L.meaning self.old.leaves) (take self.old.roll.len self.old.roll.rows) s
+            → told (λ n. Wrote n out.new) (λ why. why) result ≡ answer A.kind (D.hash self.old.digest) s (Write closing.0 out.old) }
+        ensures stays { (s : State) → Keeps A.kind (D.hash self.old.digest) (N.meaning self.old.nodes) (L.meaning self.old.leaves) (take self.old.roll.len self.old.roll.rows) s → Keeps A.kind (D.hash self.new.digest) (N.meaning self.new.nodes) (L.meaning self.new.leaves) (take self.new.roll.len self.new.roll.rows) s }
     {
         let Some(stand) = self.roll.find(closing) else {
             return Err(Refusal::NotStanding);
@@ -238,14 +238,14 @@ impl<A: Amount, D: Digest, N: NodeStore, L: NodeStore> Custodian<A, D, N, L> {
 
     // Writes the file of a line of a closing that stands, by its leaf number, and answers its length.
     pub fn issue(&mut self, closing: Closing, leaf: Leaf, out: &mut [u8]) -> Result<usize, Refusal>
-        requires { (N.NodeStore.ok self.old.nodes) × (L.NodeStore.ok self.old.leaves) }
-        ensures keeps { N.NodeStore.ok self.new.nodes × L.NodeStore.ok self.new.leaves }
+        requires { (N.ok self.old.nodes) × (L.ok self.old.leaves) }
+        ensures keeps { N.ok self.new.nodes × L.ok self.new.leaves }
         ensures digest { self.new.digest ≡ self.old.digest }
-        ensures same { (N.NodeStore.meaning self.new.nodes ≡ N.NodeStore.meaning self.old.nodes) × (L.NodeStore.meaning self.new.leaves ≡ L.NodeStore.meaning self.old.leaves) }
+        ensures same { (N.meaning self.new.nodes ≡ N.meaning self.old.nodes) × (L.meaning self.new.leaves ≡ L.meaning self.old.leaves) }
         ensures refused { Refused result (out.new ≡ out.old) }
-        ensures answers { (s : State) → Keeps A.Amount.kind (D.Digest.hash self.old.digest) (N.NodeStore.meaning self.old.nodes) (L.NodeStore.meaning self.old.leaves) (take self.old.roll.len self.old.roll.rows) s → s.ledger ≡ None
-            → told (λ n. Wrote n out.new) (λ why. why) result ≡ answer A.Amount.kind (D.Digest.hash self.old.digest) s (Issue closing.0 leaf.0 out.old) }
-        ensures stays { (s : State) → Keeps A.Amount.kind (D.Digest.hash self.old.digest) (N.NodeStore.meaning self.old.nodes) (L.NodeStore.meaning self.old.leaves) (take self.old.roll.len self.old.roll.rows) s → Keeps A.Amount.kind (D.Digest.hash self.new.digest) (N.NodeStore.meaning self.new.nodes) (L.NodeStore.meaning self.new.leaves) (take self.new.roll.len self.new.roll.rows) s }
+        ensures answers { (s : State) → Keeps A.kind (D.hash self.old.digest) (N.meaning self.old.nodes) (L.meaning self.old.leaves) (take self.old.roll.len self.old.roll.rows) s → s.ledger ≡ None
+            → told (λ n. Wrote n out.new) (λ why. why) result ≡ answer A.kind (D.hash self.old.digest) s (Issue closing.0 leaf.0 out.old) }
+        ensures stays { (s : State) → Keeps A.kind (D.hash self.old.digest) (N.meaning self.old.nodes) (L.meaning self.old.leaves) (take self.old.roll.len self.old.roll.rows) s → Keeps A.kind (D.hash self.new.digest) (N.meaning self.new.nodes) (L.meaning self.new.leaves) (take self.new.roll.len self.new.roll.rows) s }
     {
         let Some(stand) = self.roll.find(closing) else {
             return Err(Refusal::NotStanding);
@@ -266,13 +266,13 @@ impl<A: Amount, D: Digest, N: NodeStore, L: NodeStore> Custodian<A, D, N, L> {
 
     // Puts the text and the node of a line at a place.
     fn put_line(&mut self, key: Key, line: &Line<A>)
-        requires { (N.NodeStore.ok self.old.nodes) × (L.NodeStore.ok self.old.leaves) }
-        ensures keeps { N.NodeStore.ok self.new.nodes × L.NodeStore.ok self.new.leaves }
+        requires { (N.ok self.old.nodes) × (L.ok self.old.leaves) }
+        ensures keeps { N.ok self.new.nodes × L.ok self.new.leaves }
         ensures rest { (self.new.digest ≡ self.old.digest) × (self.new.roll ≡ self.old.roll) }
-        ensures node { put_refusal (N.NodeStore.meaning self.old.nodes) key.closing.0 key.place.0 (32 + A.Amount.kind.width) ≡ None
-            → Put (N.NodeStore.meaning self.old.nodes) (N.NodeStore.meaning self.new.nodes) key.closing.0 key.place.0 (node_bytes A.Amount.kind (leaf_node A.Amount.kind (D.Digest.hash self.old.digest) key.closing.0 (line_of A.Amount.meaning line.now))) }
-        ensures text { put_refusal (L.NodeStore.meaning self.old.leaves) key.closing.0 key.place.0 (37 + A.Amount.kind.width) ≡ None
-            → Put (L.NodeStore.meaning self.old.leaves) (L.NodeStore.meaning self.new.leaves) key.closing.0 key.place.0 (leaf_text A.Amount.kind key.closing.0 (line_of A.Amount.meaning line.now)) }
+        ensures node { put_refusal (N.meaning self.old.nodes) key.closing.0 key.place.0 (32 + A.kind.width) ≡ None
+            → Put (N.meaning self.old.nodes) (N.meaning self.new.nodes) key.closing.0 key.place.0 (node_bytes A.kind (leaf_node A.kind (D.hash self.old.digest) key.closing.0 (line_of A.meaning line.now))) }
+        ensures text { put_refusal (L.meaning self.old.leaves) key.closing.0 key.place.0 (37 + A.kind.width) ≡ None
+            → Put (L.meaning self.old.leaves) (L.meaning self.new.leaves) key.closing.0 key.place.0 (leaf_text A.kind key.closing.0 (line_of A.meaning line.now)) }
     {
         let text = leaf_text(key.closing, line);
         keep(&mut self.leaves, key, text.as_slice());
@@ -282,15 +282,15 @@ impl<A: Amount, D: Digest, N: NodeStore, L: NodeStore> Custodian<A, D, N, L> {
 
     // Withdraws a closing: clears it in both stores, and frees its line among the eight. Refused where it does not stand.
     pub fn withdraw(&mut self, closing: Closing) -> Result<(), Refusal>
-        requires { (N.NodeStore.ok self.old.nodes) × (L.NodeStore.ok self.old.leaves) }
-        ensures keeps { N.NodeStore.ok self.new.nodes × L.NodeStore.ok self.new.leaves }
+        requires { (N.ok self.old.nodes) × (L.ok self.old.leaves) }
+        ensures keeps { N.ok self.new.nodes × L.ok self.new.leaves }
         ensures digest { self.new.digest ≡ self.old.digest }
-        ensures refused { OnErr result ((N.NodeStore.meaning self.new.nodes ≡ N.NodeStore.meaning self.old.nodes) × (L.NodeStore.meaning self.new.leaves ≡ L.NodeStore.meaning self.old.leaves)) }
-        ensures answers { (s : State) → Keeps A.Amount.kind (D.Digest.hash self.old.digest) (N.NodeStore.meaning self.old.nodes) (L.NodeStore.meaning self.old.leaves) (take self.old.roll.len self.old.roll.rows) s
-            → told (λ _. Withdrawn) (λ why. why) result ≡ answer A.Amount.kind (D.Digest.hash self.old.digest) s (Withdraw closing.0) }
-        ensures withdrawn { (s : State) → Keeps A.Amount.kind (D.Digest.hash self.old.digest) (N.NodeStore.meaning self.old.nodes) (L.NodeStore.meaning self.old.leaves) (take self.old.roll.len self.old.roll.rows) s
-            → OnOk result (Cleared (N.NodeStore.meaning self.old.nodes) (N.NodeStore.meaning self.new.nodes) closing.0 × Cleared (L.NodeStore.meaning self.old.leaves) (L.NodeStore.meaning self.new.leaves) closing.0)
-            × Keeps A.Amount.kind (D.Digest.hash self.new.digest) (N.NodeStore.meaning self.new.nodes) (L.NodeStore.meaning self.new.leaves) (take self.new.roll.len self.new.roll.rows) (next A.Amount.kind s (Withdraw closing.0)) }
+        ensures refused { OnErr result ((N.meaning self.new.nodes ≡ N.meaning self.old.nodes) × (L.meaning self.new.leaves ≡ L.meaning self.old.leaves)) }
+        ensures answers { (s : State) → Keeps A.kind (D.hash self.old.digest) (N.meaning self.old.nodes) (L.meaning self.old.leaves) (take self.old.roll.len self.old.roll.rows) s
+            → told (λ _. Withdrawn) (λ why. why) result ≡ answer A.kind (D.hash self.old.digest) s (Withdraw closing.0) }
+        ensures withdrawn { (s : State) → Keeps A.kind (D.hash self.old.digest) (N.meaning self.old.nodes) (L.meaning self.old.leaves) (take self.old.roll.len self.old.roll.rows) s
+            → OnOk result (Cleared (N.meaning self.old.nodes) (N.meaning self.new.nodes) closing.0 × Cleared (L.meaning self.old.leaves) (L.meaning self.new.leaves) closing.0)
+            × Keeps A.kind (D.hash self.new.digest) (N.meaning self.new.nodes) (L.meaning self.new.leaves) (take self.new.roll.len self.new.roll.rows) (next A.kind s (Withdraw closing.0)) }
     {
         if !self.stands(closing) {
             return Err(Refusal::NotStanding);
@@ -317,10 +317,10 @@ impl<A: Amount, D: Digest, N: NodeStore, L: NodeStore> Ledger<A, D, N, L> {
     // Whether a line can be entered, by the table of refusals; answers the line and the joint total of all lines with it.
     fn admit_line(&self, customer: &[u8], salt: &[u8], balance: A) -> Result<(Line<A>, A), Refusal>
         ensures low { OnOk result ((self.now.depth ≤ 20) × (self.now.lines < 2 ^ self.now.depth)) }
-        ensures table { (s : State) → KeepsOpen A.Amount.kind (D.Digest.hash self.now.of.digest) (N.NodeStore.meaning self.now.of.nodes) (L.NodeStore.meaning self.now.of.leaves) (take self.now.of.roll.len self.now.of.roll.rows) self.now.closing.0 self.now.depth self.now.lines (A.Amount.meaning self.now.total) s
-            → Answers result (enter_refusal A.Amount.kind (ledger_of s) customer.now salt.now (A.Amount.meaning balance))
-            (λ x. (line_of A.Amount.meaning x.0 ≡ line_said customer.now salt.now (A.Amount.meaning balance))
-            × (A.Amount.meaning x.1 ≡ balances_total A.Amount.kind ((ledger_of s).lines ++ (line_said customer.now salt.now (A.Amount.meaning balance) ∷ [])))) }
+        ensures table { (s : State) → KeepsOpen A.kind (D.hash self.now.of.digest) (N.meaning self.now.of.nodes) (L.meaning self.now.of.leaves) (take self.now.of.roll.len self.now.of.roll.rows) self.now.closing.0 self.now.depth self.now.lines (A.meaning self.now.total) s
+            → Answers result (enter_refusal A.kind (ledger_of s) customer.now salt.now (A.meaning balance))
+            (λ x. (line_of A.meaning x.0 ≡ line_said customer.now salt.now (A.meaning balance))
+            × (A.meaning x.1 ≡ balances_total A.kind ((ledger_of s).lines ++ (line_said customer.now salt.now (A.meaning balance) ∷ [])))) }
     {
         let Some(customer) = sixteen(customer) else {
             return Err(Refusal::BadIdentity);
@@ -343,14 +343,14 @@ impl<A: Amount, D: Digest, N: NodeStore, L: NodeStore> Ledger<A, D, N, L> {
     // Enters a line and answers its leaf number, the next from 0: its text goes to the leaf store and its node to the node
     // store, at its place. Refused by the first condition of its table; then nothing changes.
     pub fn enter(&mut self, customer: &[u8], salt: &[u8], balance: A) -> Result<Leaf, Refusal>
-        requires { (N.NodeStore.ok self.old.of.nodes) × (L.NodeStore.ok self.old.of.leaves) }
-        ensures keeps { N.NodeStore.ok self.new.of.nodes × L.NodeStore.ok self.new.of.leaves }
+        requires { (N.ok self.old.of.nodes) × (L.ok self.old.of.leaves) }
+        ensures keeps { N.ok self.new.of.nodes × L.ok self.new.of.leaves }
         ensures digest { self.new.of.digest ≡ self.old.of.digest }
-        ensures refused { OnErr result ((N.NodeStore.meaning self.new.of.nodes ≡ N.NodeStore.meaning self.old.of.nodes) × (L.NodeStore.meaning self.new.of.leaves ≡ L.NodeStore.meaning self.old.of.leaves)) }
-        ensures answers { (s : State) → KeepsOpen A.Amount.kind (D.Digest.hash self.old.of.digest) (N.NodeStore.meaning self.old.of.nodes) (L.NodeStore.meaning self.old.of.leaves) (take self.old.of.roll.len self.old.of.roll.rows) self.old.closing.0 self.old.depth self.old.lines (A.Amount.meaning self.old.total) s
-            → told (λ n. Entered n.0) (λ why. why) result ≡ answer A.Amount.kind (D.Digest.hash self.old.of.digest) s (Enter customer.now salt.now (A.Amount.meaning balance)) }
-        ensures entered { (s : State) → KeepsOpen A.Amount.kind (D.Digest.hash self.old.of.digest) (N.NodeStore.meaning self.old.of.nodes) (L.NodeStore.meaning self.old.of.leaves) (take self.old.of.roll.len self.old.of.roll.rows) self.old.closing.0 self.old.depth self.old.lines (A.Amount.meaning self.old.total) s
-            → KeepsOpen A.Amount.kind (D.Digest.hash self.new.of.digest) (N.NodeStore.meaning self.new.of.nodes) (L.NodeStore.meaning self.new.of.leaves) (take self.new.of.roll.len self.new.of.roll.rows) self.new.closing.0 self.new.depth self.new.lines (A.Amount.meaning self.new.total) (next A.Amount.kind s (Enter customer.now salt.now (A.Amount.meaning balance))) }
+        ensures refused { OnErr result ((N.meaning self.new.of.nodes ≡ N.meaning self.old.of.nodes) × (L.meaning self.new.of.leaves ≡ L.meaning self.old.of.leaves)) }
+        ensures answers { (s : State) → KeepsOpen A.kind (D.hash self.old.of.digest) (N.meaning self.old.of.nodes) (L.meaning self.old.of.leaves) (take self.old.of.roll.len self.old.of.roll.rows) self.old.closing.0 self.old.depth self.old.lines (A.meaning self.old.total) s
+            → told (λ n. Entered n.0) (λ why. why) result ≡ answer A.kind (D.hash self.old.of.digest) s (Enter customer.now salt.now (A.meaning balance)) }
+        ensures entered { (s : State) → KeepsOpen A.kind (D.hash self.old.of.digest) (N.meaning self.old.of.nodes) (L.meaning self.old.of.leaves) (take self.old.of.roll.len self.old.of.roll.rows) self.old.closing.0 self.old.depth self.old.lines (A.meaning self.old.total) s
+            → KeepsOpen A.kind (D.hash self.new.of.digest) (N.meaning self.new.of.nodes) (L.meaning self.new.of.leaves) (take self.new.of.roll.len self.new.of.roll.rows) self.new.closing.0 self.new.depth self.new.lines (A.meaning self.new.total) (next A.kind s (Enter customer.now salt.now (A.meaning balance))) }
     {
         match self.admit_line(customer, salt, balance) {
             Ok((line, total)) => {
@@ -370,12 +370,12 @@ impl<A: Amount, D: Digest, N: NodeStore, L: NodeStore> Ledger<A, D, N, L> {
 
     // Closes the ledger: pads the leaves left, writes every inner node, and makes the closing stand. It never refuses.
     pub fn close(self) -> Custodian<A, D, N, L>
-        requires { (N.NodeStore.ok self.of.nodes) × (L.NodeStore.ok self.of.leaves) }
-        ensures keeps { N.NodeStore.ok result.nodes × L.NodeStore.ok result.leaves }
+        requires { (N.ok self.of.nodes) × (L.ok self.of.leaves) }
+        ensures keeps { N.ok result.nodes × L.ok result.leaves }
         ensures digest { result.digest ≡ self.of.digest }
-        ensures closed { (s : State) → KeepsOpen A.Amount.kind (D.Digest.hash self.of.digest) (N.NodeStore.meaning self.of.nodes) (L.NodeStore.meaning self.of.leaves) (take self.of.roll.len self.of.roll.rows) self.closing.0 self.depth self.lines (A.Amount.meaning self.total) s
-            → ((next A.Amount.kind s Close).ledger ≡ None) × Keeps A.Amount.kind (D.Digest.hash result.digest) (N.NodeStore.meaning result.nodes) (L.NodeStore.meaning result.leaves) (take result.roll.len result.roll.rows) (next A.Amount.kind s Close) }
-        ensures others { (s : State) → KeepsOpen A.Amount.kind (D.Digest.hash self.of.digest) (N.NodeStore.meaning self.of.nodes) (L.NodeStore.meaning self.of.leaves) (take self.of.roll.len self.of.roll.rows) self.closing.0 self.depth self.lines (A.Amount.meaning self.total) s → (d p : ℕ) → (d ≢ self.closing.0) → (N.NodeStore.meaning result.nodes).find d p ≡ (N.NodeStore.meaning self.of.nodes).find d p }
+        ensures closed { (s : State) → KeepsOpen A.kind (D.hash self.of.digest) (N.meaning self.of.nodes) (L.meaning self.of.leaves) (take self.of.roll.len self.of.roll.rows) self.closing.0 self.depth self.lines (A.meaning self.total) s
+            → ((next A.kind s Close).ledger ≡ None) × Keeps A.kind (D.hash result.digest) (N.meaning result.nodes) (L.meaning result.leaves) (take result.roll.len result.roll.rows) (next A.kind s Close) }
+        ensures others { (s : State) → KeepsOpen A.kind (D.hash self.of.digest) (N.meaning self.of.nodes) (L.meaning self.of.leaves) (take self.of.roll.len self.of.roll.rows) self.closing.0 self.depth self.lines (A.meaning self.total) s → (d p : ℕ) → (d ≢ self.closing.0) → (N.meaning result.nodes).find d p ≡ (N.meaning self.of.nodes).find d p }
         ensures leaves { result.leaves ≡ self.of.leaves }
     {
         let Ledger {
@@ -409,12 +409,12 @@ impl<A: Amount, D: Digest, N: NodeStore, L: NodeStore> Ledger<A, D, N, L> {
 
     // Abandons the ledger: clears its closing in both stores.
     pub fn abandon(self) -> Custodian<A, D, N, L>
-        requires { (N.NodeStore.ok self.of.nodes) × (L.NodeStore.ok self.of.leaves) }
-        ensures keeps { N.NodeStore.ok result.nodes × L.NodeStore.ok result.leaves }
+        requires { (N.ok self.of.nodes) × (L.ok self.of.leaves) }
+        ensures keeps { N.ok result.nodes × L.ok result.leaves }
         ensures digest { result.digest ≡ self.of.digest }
-        ensures abandoned { (s : State) → KeepsOpen A.Amount.kind (D.Digest.hash self.of.digest) (N.NodeStore.meaning self.of.nodes) (L.NodeStore.meaning self.of.leaves) (take self.of.roll.len self.of.roll.rows) self.closing.0 self.depth self.lines (A.Amount.meaning self.total) s
-            → ((next A.Amount.kind s Abandon).ledger ≡ None) × Cleared (N.NodeStore.meaning self.of.nodes) (N.NodeStore.meaning result.nodes) self.closing.0 × Cleared (L.NodeStore.meaning self.of.leaves) (L.NodeStore.meaning result.leaves) self.closing.0
-            × Keeps A.Amount.kind (D.Digest.hash result.digest) (N.NodeStore.meaning result.nodes) (L.NodeStore.meaning result.leaves) (take result.roll.len result.roll.rows) (next A.Amount.kind s Abandon) }
+        ensures abandoned { (s : State) → KeepsOpen A.kind (D.hash self.of.digest) (N.meaning self.of.nodes) (L.meaning self.of.leaves) (take self.of.roll.len self.of.roll.rows) self.closing.0 self.depth self.lines (A.meaning self.total) s
+            → ((next A.kind s Abandon).ledger ≡ None) × Cleared (N.meaning self.of.nodes) (N.meaning result.nodes) self.closing.0 × Cleared (L.meaning self.of.leaves) (L.meaning result.leaves) self.closing.0
+            × Keeps A.kind (D.hash result.digest) (N.meaning result.nodes) (L.meaning result.leaves) (take result.roll.len result.roll.rows) (next A.kind s Abandon) }
     {
         let Ledger {
             mut of,
@@ -429,29 +429,29 @@ impl<A: Amount, D: Digest, N: NodeStore, L: NodeStore> Ledger<A, D, N, L> {
 
     // Writes the sheet of a closing that stands, while this ledger is open.
     pub fn sheet(&mut self, closing: Closing, out: &mut [u8]) -> Result<usize, Refusal>
-        requires { (N.NodeStore.ok self.old.of.nodes) × (L.NodeStore.ok self.old.of.leaves) }
-        ensures keeps { N.NodeStore.ok self.new.of.nodes × L.NodeStore.ok self.new.of.leaves }
+        requires { (N.ok self.old.of.nodes) × (L.ok self.old.of.leaves) }
+        ensures keeps { N.ok self.new.of.nodes × L.ok self.new.of.leaves }
         ensures digest { self.new.of.digest ≡ self.old.of.digest }
-        ensures same { (N.NodeStore.meaning self.new.of.nodes ≡ N.NodeStore.meaning self.old.of.nodes) × (L.NodeStore.meaning self.new.of.leaves ≡ L.NodeStore.meaning self.old.of.leaves) }
+        ensures same { (N.meaning self.new.of.nodes ≡ N.meaning self.old.of.nodes) × (L.meaning self.new.of.leaves ≡ L.meaning self.old.of.leaves) }
         ensures refused { Refused result (out.new ≡ out.old) }
-        ensures answers { (s : State) → KeepsOpen A.Amount.kind (D.Digest.hash self.old.of.digest) (N.NodeStore.meaning self.old.of.nodes) (L.NodeStore.meaning self.old.of.leaves) (take self.old.of.roll.len self.old.of.roll.rows) self.old.closing.0 self.old.depth self.old.lines (A.Amount.meaning self.old.total) s
-            → told (λ n. Wrote n out.new) (λ why. why) result ≡ answer A.Amount.kind (D.Digest.hash self.old.of.digest) s (Write closing.0 out.old) }
-        ensures stays { (s : State) → KeepsOpen A.Amount.kind (D.Digest.hash self.old.of.digest) (N.NodeStore.meaning self.old.of.nodes) (L.NodeStore.meaning self.old.of.leaves) (take self.old.of.roll.len self.old.of.roll.rows) self.old.closing.0 self.old.depth self.old.lines (A.Amount.meaning self.old.total) s → KeepsOpen A.Amount.kind (D.Digest.hash self.new.of.digest) (N.NodeStore.meaning self.new.of.nodes) (L.NodeStore.meaning self.new.of.leaves) (take self.new.of.roll.len self.new.of.roll.rows) self.new.closing.0 self.new.depth self.new.lines (A.Amount.meaning self.new.total) s }
+        ensures answers { (s : State) → KeepsOpen A.kind (D.hash self.old.of.digest) (N.meaning self.old.of.nodes) (L.meaning self.old.of.leaves) (take self.old.of.roll.len self.old.of.roll.rows) self.old.closing.0 self.old.depth self.old.lines (A.meaning self.old.total) s
+            → told (λ n. Wrote n out.new) (λ why. why) result ≡ answer A.kind (D.hash self.old.of.digest) s (Write closing.0 out.old) }
+        ensures stays { (s : State) → KeepsOpen A.kind (D.hash self.old.of.digest) (N.meaning self.old.of.nodes) (L.meaning self.old.of.leaves) (take self.old.of.roll.len self.old.of.roll.rows) self.old.closing.0 self.old.depth self.old.lines (A.meaning self.old.total) s → KeepsOpen A.kind (D.hash self.new.of.digest) (N.meaning self.new.of.nodes) (L.meaning self.new.of.leaves) (take self.new.of.roll.len self.new.of.roll.rows) self.new.closing.0 self.new.depth self.new.lines (A.meaning self.new.total) s }
     {
         self.of.sheet(closing, out)
     }
 
     // Withdraws a closing that stands, while this ledger is open.
     pub fn withdraw(&mut self, closing: Closing) -> Result<(), Refusal>
-        requires { (N.NodeStore.ok self.old.of.nodes) × (L.NodeStore.ok self.old.of.leaves) }
-        ensures keeps { N.NodeStore.ok self.new.of.nodes × L.NodeStore.ok self.new.of.leaves }
+        requires { (N.ok self.old.of.nodes) × (L.ok self.old.of.leaves) }
+        ensures keeps { N.ok self.new.of.nodes × L.ok self.new.of.leaves }
         ensures digest { self.new.of.digest ≡ self.old.of.digest }
-        ensures refused { OnErr result ((N.NodeStore.meaning self.new.of.nodes ≡ N.NodeStore.meaning self.old.of.nodes) × (L.NodeStore.meaning self.new.of.leaves ≡ L.NodeStore.meaning self.old.of.leaves)) }
-        ensures answers { (s : State) → KeepsOpen A.Amount.kind (D.Digest.hash self.old.of.digest) (N.NodeStore.meaning self.old.of.nodes) (L.NodeStore.meaning self.old.of.leaves) (take self.old.of.roll.len self.old.of.roll.rows) self.old.closing.0 self.old.depth self.old.lines (A.Amount.meaning self.old.total) s
-            → told (λ _. Withdrawn) (λ why. why) result ≡ answer A.Amount.kind (D.Digest.hash self.old.of.digest) s (Withdraw closing.0) }
-        ensures withdrawn { (s : State) → KeepsOpen A.Amount.kind (D.Digest.hash self.old.of.digest) (N.NodeStore.meaning self.old.of.nodes) (L.NodeStore.meaning self.old.of.leaves) (take self.old.of.roll.len self.old.of.roll.rows) self.old.closing.0 self.old.depth self.old.lines (A.Amount.meaning self.old.total) s
-            → OnOk result (Cleared (N.NodeStore.meaning self.old.of.nodes) (N.NodeStore.meaning self.new.of.nodes) closing.0 × Cleared (L.NodeStore.meaning self.old.of.leaves) (L.NodeStore.meaning self.new.of.leaves) closing.0)
-            × KeepsOpen A.Amount.kind (D.Digest.hash self.new.of.digest) (N.NodeStore.meaning self.new.of.nodes) (L.NodeStore.meaning self.new.of.leaves) (take self.new.of.roll.len self.new.of.roll.rows) self.new.closing.0 self.new.depth self.new.lines (A.Amount.meaning self.new.total) (next A.Amount.kind s (Withdraw closing.0)) }
+        ensures refused { OnErr result ((N.meaning self.new.of.nodes ≡ N.meaning self.old.of.nodes) × (L.meaning self.new.of.leaves ≡ L.meaning self.old.of.leaves)) }
+        ensures answers { (s : State) → KeepsOpen A.kind (D.hash self.old.of.digest) (N.meaning self.old.of.nodes) (L.meaning self.old.of.leaves) (take self.old.of.roll.len self.old.of.roll.rows) self.old.closing.0 self.old.depth self.old.lines (A.meaning self.old.total) s
+            → told (λ _. Withdrawn) (λ why. why) result ≡ answer A.kind (D.hash self.old.of.digest) s (Withdraw closing.0) }
+        ensures withdrawn { (s : State) → KeepsOpen A.kind (D.hash self.old.of.digest) (N.meaning self.old.of.nodes) (L.meaning self.old.of.leaves) (take self.old.of.roll.len self.old.of.roll.rows) self.old.closing.0 self.old.depth self.old.lines (A.meaning self.old.total) s
+            → OnOk result (Cleared (N.meaning self.old.of.nodes) (N.meaning self.new.of.nodes) closing.0 × Cleared (L.meaning self.old.of.leaves) (L.meaning self.new.of.leaves) closing.0)
+            × KeepsOpen A.kind (D.hash self.new.of.digest) (N.meaning self.new.of.nodes) (L.meaning self.new.of.leaves) (take self.new.of.roll.len self.new.of.roll.rows) self.new.closing.0 self.new.depth self.new.lines (A.meaning self.new.total) (next A.kind s (Withdraw closing.0)) }
     {
         self.of.withdraw(closing)
     }

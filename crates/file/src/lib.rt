@@ -56,8 +56,8 @@ impl<'a> Fields<'a> {
     // A reader of a file of known depth, before its first field. A file of another length, or a depth over 20, has none.
     pub fn new<A: Amount>(file: &'a [u8], depth: u32) -> Fields<'a>
         ensures file { result.file.now ≡ file.now }
-        ensures width { result.width ≡ kind.width }
-        ensures count { result.count ≡ field_count kind.width depth (length file.now) }
+        ensures width { result.width ≡ A.kind.width }
+        ensures count { result.count ≡ field_count A.kind.width depth (length file.now) }
         ensures index { result.index ≡ 0 }
     {
         let width = A::width();

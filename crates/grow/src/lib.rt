@@ -24,10 +24,10 @@ use tree::leaf_count;
 
 // Puts a node at a place, where the store does not refuse it.
 pub fn put_node<A: Amount, N: NodeStore>(nodes: &mut N, key: Key, node: &Node<A>)
-    requires { N.NodeStore.ok nodes.old }
-    ensures keeps { N.NodeStore.ok nodes.new }
-    ensures is { put_refusal (N.NodeStore.meaning nodes.old) key.closing.0 key.place.0 (32 + A.Amount.kind.width) ≡ None
-        → Put (N.NodeStore.meaning nodes.old) (N.NodeStore.meaning nodes.new) key.closing.0 key.place.0 (node_bytes A.Amount.kind (node_of A.Amount.meaning node.now)) }
+    requires { N.ok nodes.old }
+    ensures keeps { N.ok nodes.new }
+    ensures is { put_refusal (N.meaning nodes.old) key.closing.0 key.place.0 (32 + A.kind.width) ≡ None
+        → Put (N.meaning nodes.old) (N.meaning nodes.new) key.closing.0 key.place.0 (node_bytes A.kind (node_of A.meaning node.now)) }
 {
     let mut record = [0u8; 112];
     match write_node(node, &mut record) {
@@ -38,12 +38,12 @@ pub fn put_node<A: Amount, N: NodeStore>(nodes: &mut N, key: Key, node: &Node<A>
 
 // The node at a place, where there is one.
 fn get_node<A: Amount, N: NodeStore>(nodes: &mut N, key: Key) -> Option<Node<A>>
-    requires { N.NodeStore.ok nodes.old }
-    ensures keeps { N.NodeStore.ok nodes.new }
-    ensures same { N.NodeStore.meaning nodes.new ≡ N.NodeStore.meaning nodes.old }
-    ensures found { (x : NodeSaid) → Whole A.Amount.kind x
-        → fetched (N.NodeStore.meaning nodes.old) key.closing.0 key.place.0 (32 + A.Amount.kind.width) ≡ Some (node_bytes A.Amount.kind x)
-        → MatchOption result ⊥ (λ n. node_of A.Amount.meaning n ≡ x) }
+    requires { N.ok nodes.old }
+    ensures keeps { N.ok nodes.new }
+    ensures same { N.meaning nodes.new ≡ N.meaning nodes.old }
+    ensures found { (x : NodeSaid) → Whole A.kind x
+        → fetched (N.meaning nodes.old) key.closing.0 key.place.0 (32 + A.kind.width) ≡ Some (node_bytes A.kind x)
+        → MatchOption result ⊥ (λ n. node_of A.meaning n ≡ x) }
 {
     let mut record = [0u8; 112];
     let part = &mut record[..32 + A::width()];
@@ -63,15 +63,15 @@ fn raise<A: Amount, D: Digest, N: NodeStore>(
     closing: Closing,
     place: u32,
 )
-    requires ok { N.NodeStore.ok nodes.old }
+    requires ok { N.ok nodes.old }
     requires low { place < 2 ^ 20 }
-    ensures keeps { N.NodeStore.ok nodes.new }
-    ensures is { (x y : NodeSaid) → Whole A.Amount.kind x → Whole A.Amount.kind y
-        → fetched (N.NodeStore.meaning nodes.old) closing.0 (2 * place) (32 + A.Amount.kind.width) ≡ Some (node_bytes A.Amount.kind x)
-        → fetched (N.NodeStore.meaning nodes.old) closing.0 (2 * place + 1) (32 + A.Amount.kind.width) ≡ Some (node_bytes A.Amount.kind y)
-        → T (A.Amount.kind.writable (A.Amount.kind.join x.amount y.amount))
-        → put_refusal (N.NodeStore.meaning nodes.old) closing.0 place (32 + A.Amount.kind.width) ≡ None
-        → Put (N.NodeStore.meaning nodes.old) (N.NodeStore.meaning nodes.new) closing.0 place (node_bytes A.Amount.kind (inner_node A.Amount.kind (D.Digest.hash digest.now) x y)) }
+    ensures keeps { N.ok nodes.new }
+    ensures is { (x y : NodeSaid) → Whole A.kind x → Whole A.kind y
+        → fetched (N.meaning nodes.old) closing.0 (2 * place) (32 + A.kind.width) ≡ Some (node_bytes A.kind x)
+        → fetched (N.meaning nodes.old) closing.0 (2 * place + 1) (32 + A.kind.width) ≡ Some (node_bytes A.kind y)
+        → T (A.kind.writable (A.kind.join x.amount y.amount))
+        → put_refusal (N.meaning nodes.old) closing.0 place (32 + A.kind.width) ≡ None
+        → Put (N.meaning nodes.old) (N.meaning nodes.new) closing.0 place (node_bytes A.kind (inner_node A.kind (D.hash digest.now) x y)) }
 {
     let left = Key {
         closing,
@@ -104,12 +104,12 @@ fn pad<A: Amount, D: Digest, N: NodeStore>(
     depth: u32,
     lines: u32,
 )
-    requires ok { N.NodeStore.ok nodes.old }
+    requires ok { N.ok nodes.old }
     requires deep { depth ≤ 20 }
-    ensures keeps { N.NodeStore.ok nodes.new }
-    ensures is { (m : Meaning) (c : ClosingSaid) → Ripe A.Amount.kind (D.Digest.hash digest.now) m c → IsClosing c closing.0 depth lines
-        → Risen A.Amount.kind (D.Digest.hash digest.now) m (N.NodeStore.meaning nodes.old) c 0 lines
-        → Risen A.Amount.kind (D.Digest.hash digest.now) m (N.NodeStore.meaning nodes.new) c 0 (2 ^ depth) }
+    ensures keeps { N.ok nodes.new }
+    ensures is { (m : Meaning) (c : ClosingSaid) → Ripe A.kind (D.hash digest.now) m c → IsClosing c closing.0 depth lines
+        → Risen A.kind (D.hash digest.now) m (N.meaning nodes.old) c 0 lines
+        → Risen A.kind (D.hash digest.now) m (N.meaning nodes.new) c 0 (2 ^ depth) }
 {
     let leaves = leaf_count(depth);
     for i in lines..leaves {
@@ -130,13 +130,13 @@ fn raise_level<A: Amount, D: Digest, N: NodeStore>(
     depth: u32,
     height: u32,
 )
-    requires ok { N.NodeStore.ok nodes.old }
+    requires ok { N.ok nodes.old }
     requires deep { depth ≤ 20 }
     requires high { (1 ≤ height) × (height ≤ depth) }
-    ensures keeps { N.NodeStore.ok nodes.new }
-    ensures is { (m : Meaning) (c : ClosingSaid) → Ripe A.Amount.kind (D.Digest.hash digest.now) m c → c.number ≡ closing.0 → c.depth ≡ depth
-        → Risen A.Amount.kind (D.Digest.hash digest.now) m (N.NodeStore.meaning nodes.old) c height 0
-        → Risen A.Amount.kind (D.Digest.hash digest.now) m (N.NodeStore.meaning nodes.new) c height (2 ^ (depth - height)) }
+    ensures keeps { N.ok nodes.new }
+    ensures is { (m : Meaning) (c : ClosingSaid) → Ripe A.kind (D.hash digest.now) m c → c.number ≡ closing.0 → c.depth ≡ depth
+        → Risen A.kind (D.hash digest.now) m (N.meaning nodes.old) c height 0
+        → Risen A.kind (D.hash digest.now) m (N.meaning nodes.new) c height (2 ^ (depth - height)) }
 {
     let first = leaf_count(depth - height);
     for n in 0..first {
@@ -152,10 +152,10 @@ pub fn grow<A: Amount, D: Digest, N: NodeStore>(
     depth: u32,
     lines: u32,
 )
-    requires { N.NodeStore.ok nodes.old }
-    ensures keeps { N.NodeStore.ok nodes.new }
-    ensures is { (c : ClosingSaid) → Ripe A.Amount.kind (D.Digest.hash digest.now) (N.NodeStore.meaning nodes.old) c → IsClosing c closing.0 depth lines
-        → Grown A.Amount.kind (D.Digest.hash digest.now) (N.NodeStore.meaning nodes.old) (N.NodeStore.meaning nodes.new) c }
+    requires { N.ok nodes.old }
+    ensures keeps { N.ok nodes.new }
+    ensures is { (c : ClosingSaid) → Ripe A.kind (D.hash digest.now) (N.meaning nodes.old) c → IsClosing c closing.0 depth lines
+        → Grown A.kind (D.hash digest.now) (N.meaning nodes.old) (N.meaning nodes.new) c }
 {
     if depth > 20 {
         return;

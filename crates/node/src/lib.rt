@@ -22,7 +22,7 @@ use types::{Line, Node};
 
 // The digest of a text that is never too long.
 fn digest_of<D: Digest>(digest: &D, text: &Text) -> [u8; 32]
-    ensures { result ≡ (D.Digest.hash digest.now).of (take text.now.len text.now.bytes) }
+    ensures { result ≡ (D.hash digest.now).of (take text.now.len text.now.bytes) }
 {
     match digest.digest(text.as_slice()) {
         Ok(d) => d,
@@ -32,8 +32,8 @@ fn digest_of<D: Digest>(digest: &D, text: &Text) -> [u8; 32]
 
 // The text of a line.
 pub fn leaf_text<A: Amount>(closing: Closing, line: &Line<A>) -> Text
-    ensures len { result.len ≡ 37 + kind.width }
-    ensures said { take result.len result.bytes ≡ leaf_text kind closing.0 (line_of meaning line.now) }
+    ensures len { result.len ≡ 37 + A.kind.width }
+    ensures said { take result.len result.bytes ≡ leaf_text A.kind closing.0 (line_of A.meaning line.now) }
 {
     let mut text = Text::of_byte(0);
     text.push(&closing.0.to_be_bytes());
@@ -45,7 +45,7 @@ pub fn leaf_text<A: Amount>(closing: Closing, line: &Line<A>) -> Text
 
 // The node of a line.
 pub fn leaf<A: Amount, D: Digest>(digest: &D, closing: Closing, line: &Line<A>) -> Node<A>
-    ensures { node_of meaning result ≡ leaf_node kind (D.Digest.hash digest.now) closing.0 (line_of meaning line.now) }
+    ensures { node_of A.meaning result ≡ leaf_node A.kind (D.hash digest.now) closing.0 (line_of A.meaning line.now) }
 {
     Node {
         digest: digest_of(digest, &leaf_text(closing, line)),
@@ -55,7 +55,7 @@ pub fn leaf<A: Amount, D: Digest>(digest: &D, closing: Closing, line: &Line<A>) 
 
 // The node of a leaf with no line.
 pub fn padding<A: Amount, D: Digest>(digest: &D, closing: Closing, leaf: Leaf) -> Node<A>
-    ensures { node_of meaning result ≡ padding_node kind (D.Digest.hash digest.now) closing.0 leaf.0 }
+    ensures { node_of A.meaning result ≡ padding_node A.kind (D.hash digest.now) closing.0 leaf.0 }
 {
     let mut text = Text::of_byte(2);
     text.push(&closing.0.to_be_bytes());
@@ -67,9 +67,9 @@ pub fn padding<A: Amount, D: Digest>(digest: &D, closing: Closing, leaf: Leaf) -
 }
 
 fn push_node<A: Amount>(text: &mut Text, node: &Node<A>)
-    requires { text.old.len + (32 + kind.width) ≤ 225 }
-    ensures len { text.new.len ≡ text.old.len + (32 + kind.width) }
-    ensures said { take text.new.len text.new.bytes ≡ take text.old.len text.old.bytes ++ node_bytes kind (node_of meaning node.now) }
+    requires { text.old.len + (32 + A.kind.width) ≤ 225 }
+    ensures len { text.new.len ≡ text.old.len + (32 + A.kind.width) }
+    ensures said { take text.new.len text.new.bytes ≡ take text.old.len text.old.bytes ++ node_bytes A.kind (node_of A.meaning node.now) }
 {
     text.push(&node.digest);
     text.push_amount(node.amount);
@@ -77,8 +77,8 @@ fn push_node<A: Amount>(text: &mut Text, node: &Node<A>)
 
 // The text of a node over two others.
 pub fn inner_text<A: Amount>(left: &Node<A>, right: &Node<A>) -> Text
-    ensures len { result.len ≡ 65 + 2 * kind.width }
-    ensures said { take result.len result.bytes ≡ inner_text kind (node_of meaning left.now) (node_of meaning right.now) }
+    ensures len { result.len ≡ 65 + 2 * A.kind.width }
+    ensures said { take result.len result.bytes ≡ inner_text A.kind (node_of A.meaning left.now) (node_of A.meaning right.now) }
 {
     let mut text = Text::of_byte(1);
     push_node(&mut text, left);
@@ -93,8 +93,8 @@ pub fn inner<A: Amount, D: Digest>(
     right: &Node<A>,
 ) -> Result<Node<A>, Refusal>
     ensures { Answers result
-        (join_refusal kind (meaning left.now.amount) (meaning right.now.amount))
-        (λ n. node_of meaning n ≡ inner_node kind (D.Digest.hash digest.now) (node_of meaning left.now) (node_of meaning right.now)) }
+        (join_refusal A.kind (A.meaning left.now.amount) (A.meaning right.now.amount))
+        (λ n. node_of A.meaning n ≡ inner_node A.kind (D.hash digest.now) (node_of A.meaning left.now) (node_of A.meaning right.now)) }
 {
     let amount = left.amount.join(right.amount)?;
     Ok(Node {
@@ -106,10 +106,10 @@ pub fn inner<A: Amount, D: Digest>(
 // Writes a node's bytes to the front of the buffer, and answers how many they are.
 pub fn write_node<A: Amount>(node: &Node<A>, out: &mut [u8]) -> Result<usize, Refusal>
     ensures answers { Answers result
-        (first ((nat_lt (length out.old) (32 + kind.width) ⇒ BufferTooShort) ∷ []))
-        (λ n. (n ≡ 32 + kind.width) × (n ≡ length (node_bytes kind (node_of meaning node.now)))
-        × (out.new ≡ written (node_bytes kind (node_of meaning node.now)) out.old)) }
-    ensures refused { length out.old < 32 + kind.width → out.new ≡ out.old }
+        (first ((nat_lt (length out.old) (32 + A.kind.width) ⇒ BufferTooShort) ∷ []))
+        (λ n. (n ≡ 32 + A.kind.width) × (n ≡ length (node_bytes A.kind (node_of A.meaning node.now)))
+        × (out.new ≡ written (node_bytes A.kind (node_of A.meaning node.now)) out.old)) }
+    ensures refused { length out.old < 32 + A.kind.width → out.new ≡ out.old }
 {
     let end = 32 + A::width();
     if out.len() < end {
@@ -125,8 +125,8 @@ pub fn write_node<A: Amount>(node: &Node<A>, out: &mut [u8]) -> Result<usize, Re
 // The node that these bytes say; refused exactly where they say none, at the amount.
 pub fn read_node<A: Amount>(bytes: &[u8]) -> Result<Node<A>, Refusal>
     ensures { Answers result
-        (first ((not (is_some (kind.read (drop 32 bytes.now))) ⇒ BadAmount 32) ∷ []))
-        (λ n. read_node kind bytes.now ≡ Some (node_of meaning n)) }
+        (first ((not (is_some (A.kind.read (drop 32 bytes.now))) ⇒ BadAmount 32) ∷ []))
+        (λ n. read_node A.kind bytes.now ≡ Some (node_of A.meaning n)) }
 {
     if bytes.len() < 32 {
         return Err(Refusal::BadAmount(32));

@@ -35,9 +35,9 @@ impl Text {
 
     // Puts the bytes of an amount behind what there is.
     pub(crate) fn push_amount<A: Amount>(&mut self, amount: A)
-        requires { self.old.len + kind.width ≤ 225 }
-        ensures len { self.new.len ≡ self.old.len + kind.width }
-        ensures said { take self.new.len self.new.bytes ≡ take self.old.len self.old.bytes ++ kind.bytes (meaning amount) }
+        requires { self.old.len + A.kind.width ≤ 225 }
+        ensures len { self.new.len ≡ self.old.len + A.kind.width }
+        ensures said { take self.new.len self.new.bytes ≡ take self.old.len self.old.bytes ++ A.kind.bytes (A.meaning amount) }
     {
         let end = self.len + A::width();
         match amount.write(&mut self.bytes[self.len..end]) {

@@ -38,13 +38,13 @@ fn put_part(out: &mut [u8], at: usize, part: &[u8])
 
 // Puts a record behind what is written already.
 fn fetch_part<S: NodeStore>(store: &mut S, key: Key, out: &mut [u8], at: usize, width: usize)
-    requires ok { ok store.old }
+    requires ok { S.ok store.old }
     requires room { at + width ≤ length out.old }
-    ensures keeps { ok store.new }
-    ensures same { meaning store.new ≡ meaning store.old }
+    ensures keeps { S.ok store.new }
+    ensures same { S.meaning store.new ≡ S.meaning store.old }
     ensures long { length out.new ≡ length out.old }
     ensures is { (said o b : List ℕ) → length said ≡ at → out.old ≡ written said o
-        → fetched (meaning store.old) key.closing.0 key.place.0 width ≡ Some b → length b ≡ width → out.new ≡ written (said ++ b) o }
+        → fetched (S.meaning store.old) key.closing.0 key.place.0 width ≡ Some b → length b ≡ width → out.new ≡ written (said ++ b) o }
 {
     let _ = fetch(store, key, &mut out[at..at + width]);
 }
@@ -68,15 +68,15 @@ fn put_steps<A: Amount, N: NodeStore>(
     out: &mut [u8],
     at: usize,
 )
-    requires ok { N.NodeStore.ok nodes.old }
+    requires ok { N.ok nodes.old }
     requires deep { depth ≤ 20 }
     requires low { leaf < 2 ^ depth }
-    requires room { at + depth * (32 + A.Amount.kind.width) ≤ length out.old }
-    ensures keeps { N.NodeStore.ok nodes.new }
-    ensures same { N.NodeStore.meaning nodes.new ≡ N.NodeStore.meaning nodes.old }
-    ensures is { (h : Hash) (c : ClosingSaid) (said o : List ℕ) → HashLaws h → TreeStands A.Amount.kind h (N.NodeStore.meaning nodes.old) c → c.number ≡ closing.0 → c.depth ≡ depth
+    requires room { at + depth * (32 + A.kind.width) ≤ length out.old }
+    ensures keeps { N.ok nodes.new }
+    ensures same { N.meaning nodes.new ≡ N.meaning nodes.old }
+    ensures is { (h : Hash) (c : ClosingSaid) (said o : List ℕ) → HashLaws h → TreeStands A.kind h (N.meaning nodes.old) c → c.number ≡ closing.0 → c.depth ≡ depth
         → length said ≡ at → out.old ≡ written said o
-        → out.new ≡ written (said ++ steps_bytes A.Amount.kind (steps_beside A.Amount.kind h c.number c.lines leaf depth 0)) o }
+        → out.new ≡ written (said ++ steps_bytes A.kind (steps_beside A.kind h c.number c.lines leaf depth 0)) o }
 {
     let width = 32 + A::width();
     for j in 0..depth {
@@ -96,12 +96,12 @@ pub fn write_sheet<A: Amount, D: Digest, N: NodeStore>(
     depth: u8,
     out: &mut [u8],
 ) -> Result<usize, Refusal>
-    requires { N.NodeStore.ok nodes.old }
-    ensures keeps { N.NodeStore.ok nodes.new }
-    ensures same { N.NodeStore.meaning nodes.new ≡ N.NodeStore.meaning nodes.old }
-    ensures answers { (c : ClosingSaid) → TreeStands A.Amount.kind (D.Digest.hash digest.now) (N.NodeStore.meaning nodes.old) c → c.number ≡ closing.0 → c.depth ≡ depth
-        → Answers result (first ((nat_lt (length out.old) (39 + A.Amount.kind.width) ⇒ BufferTooShort) ∷ []))
-        (λ n. (n ≡ length (sheet_said A.Amount.kind (D.Digest.hash digest.now) c)) × (out.new ≡ written (sheet_said A.Amount.kind (D.Digest.hash digest.now) c) out.old)) }
+    requires { N.ok nodes.old }
+    ensures keeps { N.ok nodes.new }
+    ensures same { N.meaning nodes.new ≡ N.meaning nodes.old }
+    ensures answers { (c : ClosingSaid) → TreeStands A.kind (D.hash digest.now) (N.meaning nodes.old) c → c.number ≡ closing.0 → c.depth ≡ depth
+        → Answers result (first ((nat_lt (length out.old) (39 + A.kind.width) ⇒ BufferTooShort) ∷ []))
+        (λ n. (n ≡ length (sheet_said A.kind (D.hash digest.now) c)) × (out.new ≡ written (sheet_said A.kind (D.hash digest.now) c) out.old)) }
     ensures refused { Refused result (out.new ≡ out.old) }
 {
     let width = 32 + A::width();
@@ -120,13 +120,13 @@ pub fn write_sheet<A: Amount, D: Digest, N: NodeStore>(
 // Puts the customer number, the salt and the balance of a leaf behind what is written already: its text without the first
 // five bytes.
 fn put_line<A: Amount, L: NodeStore>(leaves: &mut L, key: Key, out: &mut [u8], at: usize)
-    requires ok { L.NodeStore.ok leaves.old }
-    requires room { at + (32 + A.Amount.kind.width) ≤ length out.old }
-    ensures keeps { L.NodeStore.ok leaves.new }
-    ensures same { L.NodeStore.meaning leaves.new ≡ L.NodeStore.meaning leaves.old }
+    requires ok { L.ok leaves.old }
+    requires room { at + (32 + A.kind.width) ≤ length out.old }
+    ensures keeps { L.ok leaves.new }
+    ensures same { L.meaning leaves.new ≡ L.meaning leaves.old }
     ensures long { length out.new ≡ length out.old }
     ensures is { (said o b : List ℕ) → length said ≡ at → out.old ≡ written said o
-        → fetched (L.NodeStore.meaning leaves.old) key.closing.0 key.place.0 (37 + A.Amount.kind.width) ≡ Some b → length b ≡ 37 + A.Amount.kind.width
+        → fetched (L.meaning leaves.old) key.closing.0 key.place.0 (37 + A.kind.width) ≡ Some b → length b ≡ 37 + A.kind.width
         → out.new ≡ written (said ++ drop 5 b) o }
 {
     let mut record = [0u8; 117];
@@ -146,13 +146,13 @@ pub fn write_file<A: Amount, D: Digest, N: NodeStore, L: NodeStore>(
     leaf: Leaf,
     out: &mut [u8],
 ) -> Result<usize, Refusal>
-    requires { (N.NodeStore.ok nodes.old) × (L.NodeStore.ok leaves.old) }
-    ensures keeps { N.NodeStore.ok nodes.new × L.NodeStore.ok leaves.new }
-    ensures same { (N.NodeStore.meaning nodes.new ≡ N.NodeStore.meaning nodes.old) × (L.NodeStore.meaning leaves.new ≡ L.NodeStore.meaning leaves.old) }
-    ensures answers { (c : ClosingSaid) (l : LineSaid) → TreeStands A.Amount.kind (D.Digest.hash digest.now) (N.NodeStore.meaning nodes.old) c
-        → TextsStand A.Amount.kind (D.Digest.hash digest.now) (L.NodeStore.meaning leaves.old) c → c.number ≡ closing.0 → c.depth ≡ depth → slice_get c.lines leaf.0 ≡ Some l
-        → Answers result (first ((nat_lt (length out.old) (file_length A.Amount.kind.width depth) ⇒ BufferTooShort) ∷ []))
-        (λ n. (n ≡ length (file_said A.Amount.kind (D.Digest.hash digest.now) c leaf.0 l)) × (out.new ≡ written (file_said A.Amount.kind (D.Digest.hash digest.now) c leaf.0 l) out.old)) }
+    requires { (N.ok nodes.old) × (L.ok leaves.old) }
+    ensures keeps { N.ok nodes.new × L.ok leaves.new }
+    ensures same { (N.meaning nodes.new ≡ N.meaning nodes.old) × (L.meaning leaves.new ≡ L.meaning leaves.old) }
+    ensures answers { (c : ClosingSaid) (l : LineSaid) → TreeStands A.kind (D.hash digest.now) (N.meaning nodes.old) c
+        → TextsStand A.kind (D.hash digest.now) (L.meaning leaves.old) c → c.number ≡ closing.0 → c.depth ≡ depth → slice_get c.lines leaf.0 ≡ Some l
+        → Answers result (first ((nat_lt (length out.old) (file_length A.kind.width depth) ⇒ BufferTooShort) ∷ []))
+        (λ n. (n ≡ length (file_said A.kind (D.hash digest.now) c leaf.0 l)) × (out.new ≡ written (file_said A.kind (D.hash digest.now) c leaf.0 l) out.old)) }
     ensures refused { Refused result (out.new ≡ out.old) }
 {
     let deep = depth as u32;

@@ -23,16 +23,16 @@ use types::Sheet;
 
 // Whether the kinds are not those of the reader.
 fn other_kinds<A: Amount, D: Digest>(digest: &D, amount_kind: u8, digest_kind: u8) -> bool
-    ensures { result ≡ not (nat_eq amount_kind kind.number && nat_eq digest_kind (D.Digest.hash digest.now).number) }
+    ensures { result ≡ not (nat_eq amount_kind A.kind.number && nat_eq digest_kind (D.hash digest.now).number) }
 {
     !(amount_kind == A::number() && digest_kind == digest.number())
 }
 
 // The sheet that these bytes are; refused by the first condition of its table.
 pub fn read<A: Amount, D: Digest>(digest: &D, bytes: &[u8]) -> Result<Sheet<A>, Refusal>
-    ensures { Answers result (sheet_refusal kind (D.Digest.hash digest.now) bytes.now)
-        (λ s. (read_sheet kind (D.Digest.hash digest.now) bytes.now ≡ Some (sheet_of meaning s))
-        × (sheet_bytes kind (D.Digest.hash digest.now) (sheet_of meaning s) ≡ bytes.now)) }
+    ensures { Answers result (sheet_refusal A.kind (D.hash digest.now) bytes.now)
+        (λ s. (read_sheet A.kind (D.hash digest.now) bytes.now ≡ Some (sheet_of A.meaning s))
+        × (sheet_bytes A.kind (D.hash digest.now) (sheet_of A.meaning s) ≡ bytes.now)) }
 {
     if bytes.len() != 39 + A::width() {
         return Err(Refusal::SheetLength);
@@ -61,7 +61,7 @@ pub fn read<A: Amount, D: Digest>(digest: &D, bytes: &[u8]) -> Result<Sheet<A>, 
 
 // The first seven bytes of a sheet, and of each of its files.
 pub fn head<A: Amount, D: Digest>(digest: &D, closing: Closing, depth: u8) -> [u8; 7]
-    ensures { result ≡ head_bytes kind (D.Digest.hash digest.now) closing.0 depth }
+    ensures { result ≡ head_bytes A.kind (D.hash digest.now) closing.0 depth }
 {
     let [a, b, c, d] = be4(closing.0);
     [A::number(), digest.number(), depth, a, b, c, d]
@@ -75,13 +75,13 @@ pub fn write<A: Amount, D: Digest>(
     out: &mut [u8],
 ) -> Result<usize, Refusal>
     ensures answers { Answers result
-        (first ((nat_lt (length out.old) (39 + kind.width) ⇒ BufferTooShort) ∷ []))
-        (λ n. (n ≡ 39 + kind.width)
-        × (out.new ≡ written (sheet_bytes kind (D.Digest.hash digest.now) (sheet_of meaning sheet.now)) out.old)
+        (first ((nat_lt (length out.old) (39 + A.kind.width) ⇒ BufferTooShort) ∷ []))
+        (λ n. (n ≡ 39 + A.kind.width)
+        × (out.new ≡ written (sheet_bytes A.kind (D.hash digest.now) (sheet_of A.meaning sheet.now)) out.old)
         × (bad_limits sheet.now.closing.0 sheet.now.depth ≡ false
-        → (sheet_refusal kind (D.Digest.hash digest.now) (sheet_bytes kind (D.Digest.hash digest.now) (sheet_of meaning sheet.now)) ≡ None)
-        × (read_sheet kind (D.Digest.hash digest.now) (sheet_bytes kind (D.Digest.hash digest.now) (sheet_of meaning sheet.now)) ≡ Some (sheet_of meaning sheet.now)))) }
-    ensures refused { length out.old < 39 + kind.width → out.new ≡ out.old }
+        → (sheet_refusal A.kind (D.hash digest.now) (sheet_bytes A.kind (D.hash digest.now) (sheet_of A.meaning sheet.now)) ≡ None)
+        × (read_sheet A.kind (D.hash digest.now) (sheet_bytes A.kind (D.hash digest.now) (sheet_of A.meaning sheet.now)) ≡ Some (sheet_of A.meaning sheet.now)))) }
+    ensures refused { length out.old < 39 + A.kind.width → out.new ≡ out.old }
 {
     let end = 39 + A::width();
     if out.len() < end {

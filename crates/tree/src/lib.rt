@@ -23,7 +23,7 @@ fn leaf_or_padding<A: Amount, D: Digest>(
     lines: &[Line<A>],
     n: u32,
 ) -> Node<A>
-    ensures { node_of meaning result ≡ node_at kind (D.Digest.hash digest.now) closing.0 (lines_of meaning lines.now) 0 n }
+    ensures { node_of A.meaning result ≡ node_at A.kind (D.hash digest.now) closing.0 (lines_of A.meaning lines.now) 0 n }
 {
     let i = n as usize;
     if i < lines.len() {
@@ -43,8 +43,8 @@ fn subtree<A: Amount, D: Digest>(
 ) -> Result<Node<A>, Refusal>
     requires { (n + 1) * 2 ^ height ≤ 2 ^ 20 }
     ensures { Answers result
-        (first ((not (kind.writable (node_at kind (D.Digest.hash digest.now) closing.0 (lines_of meaning lines.now) height n).amount) ⇒ JoinUnwritable 0) ∷ []))
-        (λ x. node_of meaning x ≡ node_at kind (D.Digest.hash digest.now) closing.0 (lines_of meaning lines.now) height n) }
+        (first ((not (A.kind.writable (node_at A.kind (D.hash digest.now) closing.0 (lines_of A.meaning lines.now) height n).amount) ⇒ JoinUnwritable 0) ∷ []))
+        (λ x. node_of A.meaning x ≡ node_at A.kind (D.hash digest.now) closing.0 (lines_of A.meaning lines.now) height n) }
 {
     if height == 0 {
         return Ok(leaf_or_padding(digest, closing, lines, n));
@@ -88,9 +88,9 @@ pub fn tree_node<A: Amount, D: Digest>(
     n: u32,
 ) -> Result<Node<A>, Refusal>
     ensures { Answers result
-        (node_refusal kind (D.Digest.hash digest.now) closing.0 (lines_of meaning lines.now) depth height n)
-        (λ x. (node_of meaning x ≡ node_at kind (D.Digest.hash digest.now) closing.0 (lines_of meaning lines.now) height n)
-        × (height ≡ depth → meaning x.amount ≡ balances_total kind (lines_of meaning lines.now))) }
+        (node_refusal A.kind (D.hash digest.now) closing.0 (lines_of A.meaning lines.now) depth height n)
+        (λ x. (node_of A.meaning x ≡ node_at A.kind (D.hash digest.now) closing.0 (lines_of A.meaning lines.now) height n)
+        × (height ≡ depth → A.meaning x.amount ≡ balances_total A.kind (lines_of A.meaning lines.now))) }
 {
     if bad_limits(closing, depth) {
         return Err(Refusal::BadLimits);

@@ -38,7 +38,7 @@ use types::Walker;
 
 // Whether the bytes behind a digest are an amount's.
 fn step_amount<A: Amount>(part: &[u8]) -> bool
-    ensures { result ≡ is_some (kind.read (drop 32 part.now)) }
+    ensures { result ≡ is_some (A.kind.read (drop 32 part.now)) }
 {
     match read_node::<A>(part) {
         Ok(_) => true,
@@ -49,7 +49,7 @@ fn step_amount<A: Amount>(part: &[u8]) -> bool
 // Whether the amount of a field is one.
 fn judge<A: Amount>(found: Found) -> Result<(), Refusal>
     requires { found.offset + 32 < 2 ^ 64 }
-    ensures { (s : List ℕ) (i : ℕ) → IsField kind.width s i found.entry → Answers result (field_refusal kind s i) (λ _. Unit {0}) }
+    ensures { (s : List ℕ) (i : ℕ) → IsField A.kind.width s i found.entry → Answers result (field_refusal A.kind s i) (λ _. Unit {0}) }
 {
     match found.field {
         Field::Head(_) => Ok(()),
@@ -74,8 +74,8 @@ fn judge<A: Amount>(found: Found) -> Result<(), Refusal>
 
 // Every amount of a file, in file order.
 fn check_amounts<A: Amount>(file: &[u8], depth: u32) -> Result<(), Refusal>
-    requires { (depth ≤ 20) × (length file.now ≡ file_length kind.width depth) }
-    ensures { Answers result (amounts_refusal kind depth file.now) (λ _. Unit {0}) }
+    requires { (depth ≤ 20) × (length file.now ≡ file_length A.kind.width depth) }
+    ensures { Answers result (amounts_refusal A.kind depth file.now) (λ _. Unit {0}) }
 {
     let mut fields = Fields::new::<A>(file, depth);
     while let Some(found) = fields.next() {
@@ -100,8 +100,8 @@ fn over<A: Amount, D: Digest>(
     step: &Node<A>,
 ) -> Result<Node<A>, Refusal>
     ensures { Answers result
-        (join_refusal kind (meaning (if left then own.now else step.now).amount) (meaning (if left then step.now else own.now).amount))
-        (λ n. node_of meaning n ≡ inner_node kind (D.Digest.hash digest.now) (node_of meaning (if left then own.now else step.now)) (node_of meaning (if left then step.now else own.now))) }
+        (join_refusal A.kind (A.meaning (if left then own.now else step.now).amount) (A.meaning (if left then step.now else own.now).amount))
+        (λ n. node_of A.meaning n ≡ inner_node A.kind (D.hash digest.now) (node_of A.meaning (if left then own.now else step.now)) (node_of A.meaning (if left then step.now else own.now))) }
 {
     if left {
         inner(digest, own, step)
@@ -130,10 +130,10 @@ fn walk<A: Amount, D: Digest>(
     found: Found,
 ) -> Result<Walker<A>, Refusal>
     requires { walker.height < 32 }
-    ensures { (s : List ℕ) (depth i : ℕ) → IsField kind.width s i found.entry → length (field_bytes kind.width s i) ≡ length_at kind.width i → i < 4 + depth
-        → field_refusal kind s i ≡ None → leaf_number ≡ (file_of kind depth s).leaf → Walks meaning kind (D.Digest.hash digest.now) closing.0 depth s i walker
-        → Answers result (join_refusal_at kind (D.Digest.hash digest.now) closing.0 (file_of kind depth s) i)
-        (λ w. Walks meaning kind (D.Digest.hash digest.now) closing.0 depth s (i + 1) w) }
+    ensures { (s : List ℕ) (depth i : ℕ) → IsField A.kind.width s i found.entry → length (field_bytes A.kind.width s i) ≡ length_at A.kind.width i → i < 4 + depth
+        → field_refusal A.kind s i ≡ None → leaf_number ≡ (file_of A.kind depth s).leaf → Walks A.meaning A.kind (D.hash digest.now) closing.0 depth s i walker
+        → Answers result (join_refusal_at A.kind (D.hash digest.now) closing.0 (file_of A.kind depth s) i)
+        (λ w. Walks A.meaning A.kind (D.hash digest.now) closing.0 depth s (i + 1) w) }
 {
     let Walker {
         customer,
@@ -204,11 +204,11 @@ fn climb<A: Amount, D: Digest>(
     file: &[u8],
 ) -> Result<Node<A>, Refusal>
     requires deep { depth ≤ 20 }
-    requires long { length file.now ≡ file_length kind.width depth }
-    requires amounts { amounts_refusal kind depth file.now ≡ None }
-    requires number { leaf_number ≡ (file_of kind depth file.now).leaf }
-    ensures { Answers result (joins_refusal kind (D.Digest.hash digest.now) closing.0 depth (file_of kind depth file.now))
-        (λ n. node_of meaning n ≡ path_node kind (D.Digest.hash digest.now) closing.0 (file_of kind depth file.now) depth) }
+    requires long { length file.now ≡ file_length A.kind.width depth }
+    requires amounts { amounts_refusal A.kind depth file.now ≡ None }
+    requires number { leaf_number ≡ (file_of A.kind depth file.now).leaf }
+    ensures { Answers result (joins_refusal A.kind (D.hash digest.now) closing.0 depth (file_of A.kind depth file.now))
+        (λ n. node_of A.meaning n ≡ path_node A.kind (D.hash digest.now) closing.0 (file_of A.kind depth file.now) depth) }
 {
     let mut fields = Fields::new::<A>(file, depth);
     let mut walker = Walker {
@@ -229,7 +229,7 @@ fn climb<A: Amount, D: Digest>(
 
 // Whether two nodes have the same bytes.
 fn same_node<A: Amount>(a: &Node<A>, b: &Node<A>) -> bool
-    ensures { result ≡ same (node_bytes kind (node_of meaning a.now)) (node_bytes kind (node_of meaning b.now)) }
+    ensures { result ≡ same (node_bytes A.kind (node_of A.meaning a.now)) (node_bytes A.kind (node_of A.meaning b.now)) }
 {
     let mut one = [0u8; 112];
     let mut two = [0u8; 112];
@@ -246,8 +246,8 @@ fn check_shape<A: Amount, D: Digest>(
     file: &[u8],
 ) -> Result<u32, Refusal>
     requires { sheet.now.depth ≤ 20 }
-    ensures { Answers result (shape_refusal kind (D.Digest.hash digest.now) (sheet_of meaning sheet.now) file.now)
-        (λ n. (n ≡ (file_of kind sheet.now.depth file.now).leaf) × (length file.now ≡ file_length kind.width sheet.now.depth) × (n < 2 ^ sheet.now.depth)) }
+    ensures { Answers result (shape_refusal A.kind (D.hash digest.now) (sheet_of A.meaning sheet.now) file.now)
+        (λ n. (n ≡ (file_of A.kind sheet.now.depth file.now).leaf) × (length file.now ≡ file_length A.kind.width sheet.now.depth) × (n < 2 ^ sheet.now.depth)) }
 {
     let width = A::width();
     if file.len() != 43 + width + sheet.depth as usize * (32 + width) {
@@ -273,8 +273,8 @@ pub fn check_file<A: Amount, D: Digest>(
     sheet: &Sheet<A>,
     file: &[u8],
 ) -> Result<Place, Refusal>
-    ensures { Answers result (under_refusal kind (D.Digest.hash digest.now) (sheet_of meaning sheet.now) file.now)
-        (λ p. p.0 ≡ leaf_place kind (sheet_of meaning sheet.now) file.now) }
+    ensures { Answers result (under_refusal A.kind (D.hash digest.now) (sheet_of A.meaning sheet.now) file.now)
+        (λ p. p.0 ≡ leaf_place A.kind (sheet_of A.meaning sheet.now) file.now) }
 {
     if sheet.depth > 20 {
         return Err(Refusal::BadLimits);
@@ -293,14 +293,14 @@ pub fn check_file<A: Amount, D: Digest>(
 // file is under the total on the sheet, and the file has exactly the bytes of what it says. The file of every line of a
 // ledger passes under that ledger's sheet.
 pub fn check<A: Amount, D: Digest>(digest: &D, sheet: &[u8], file: &[u8]) -> Result<Place, Refusal>
-    ensures answers { Answers result (check_refusal kind (D.Digest.hash digest.now) sheet.now file.now)
-        (λ p. ((s : SheetSaid) → read_sheet kind (D.Digest.hash digest.now) sheet.now ≡ Some s
-        → (p.0 ≡ leaf_place kind s file.now)
-        × T (kind.under (file_of kind s.depth file.now).line.balance s.root.amount)
-        × (file_bytes kind (D.Digest.hash digest.now) s.closing s.depth (file_of kind s.depth file.now) ≡ file.now))) }
-    ensures own { (closing depth n : ℕ) (lines : List LineSaid) (l : LineSaid) → Ledger kind closing depth lines → slice_get lines n ≡ Some l
-        → sheet.now ≡ sheet_bytes kind (D.Digest.hash digest.now) (ledger_sheet kind (D.Digest.hash digest.now) closing lines depth)
-        → file.now ≡ file_bytes kind (D.Digest.hash digest.now) closing depth (line_file kind (D.Digest.hash digest.now) closing lines depth n l)
+    ensures answers { Answers result (check_refusal A.kind (D.hash digest.now) sheet.now file.now)
+        (λ p. ((s : SheetSaid) → read_sheet A.kind (D.hash digest.now) sheet.now ≡ Some s
+        → (p.0 ≡ leaf_place A.kind s file.now)
+        × T (A.kind.under (file_of A.kind s.depth file.now).line.balance s.root.amount)
+        × (file_bytes A.kind (D.hash digest.now) s.closing s.depth (file_of A.kind s.depth file.now) ≡ file.now))) }
+    ensures own { (closing depth n : ℕ) (lines : List LineSaid) (l : LineSaid) → Ledger A.kind closing depth lines → slice_get lines n ≡ Some l
+        → sheet.now ≡ sheet_bytes A.kind (D.hash digest.now) (ledger_sheet A.kind (D.hash digest.now) closing lines depth)
+        → file.now ≡ file_bytes A.kind (D.hash digest.now) closing depth (line_file A.kind (D.hash digest.now) closing lines depth n l)
         → IsOkAnd result (λ p. p.0 ≡ 2 ^ depth + n) }
 {
     let read = sheet::read::<A, D>(digest, sheet)?;
