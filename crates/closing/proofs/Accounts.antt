@@ -54,7 +54,7 @@ module _ (k : Kind) where
 
     -- one call more while the ledger is open
     on : (c d : Closing) → (x ≡ Close → ⊥) → (x ≡ Abandon → ⊥) → d.number ≡ c.number → d.depth ≡ c.depth → d.lines ≡ c.lines ++ entered_line k s x → OpenSince k start calls c → OpenSince k start (calls ++ (x ∷ [])) d
-    on c d not-close not-abandon en ed el o =
+    on c d not_close not_abandon en ed el o =
         let open_call : Open c.number c.depth ≡ Open d.number d.depth = ap (λ n. Open n c.depth) (sym en) ∙ ap (Open d.number) (sym ed) in
         let at : after k (next k (after k start o.before) (Open c.number c.depth)) o.since ≡ s = sym (after_append start o.before (Open c.number c.depth ∷ o.since)) ∙ ap (after k start) (sym o.is) in
         record {
@@ -63,7 +63,7 @@ module _ (k : Kind) where
           is = ap (λ l. l ++ (x ∷ [])) (o.is ∙ ap (λ y. o.before ++ (y ∷ o.since)) open_call) ∙ append_assoc o.before (Open d.number d.depth ∷ o.since) (x ∷ []);
           none_open = o.none_open;
           unrefused = subst (λ n. open_refusal k (after k start o.before) n d.depth ≡ None) (sym en) (subst (λ m. open_refusal k (after k start o.before) c.number m ≡ None) (sym ed) o.unrefused);
-          unclosed = All-push (λ (y : Call). (y ≡ Close → ⊥) × (y ≡ Abandon → ⊥)) o.since x o.unclosed (not-close, not-abandon);
+          unclosed = All-push (λ (y : Call). (y ≡ Close → ⊥) × (y ≡ Abandon → ⊥)) o.since x o.unclosed (not_close, not_abandon);
           lines_are =
               el ∙ ap (λ l. l ++ entered_line k s x) o.lines_are
               ∙ ap (λ t. lines_entered k (next k (after k start o.before) (Open c.number c.depth)) o.since ++ entered_line k t x) (sym at)
@@ -92,11 +92,11 @@ module _ (k : Kind) where
 
     -- a call that changes neither the ledger nor what stands
     same_on : (x : Call) → (sort x ≡ 2 → ⊥) → (sort x ≡ 3 → ⊥) → entered_line k at x ≡ [] → (c : Closing) → at.ledger ≡ Some c → OpenSince k start (calls ++ (x ∷ [])) c
-    same_on x not-close not-abandon none c e =
-        on start calls x c c (λ q. not-close (ap sort q)) (λ q. not-abandon (ap sort q)) refl refl (sym (append-nil c.lines) ∙ ap (λ l. c.lines ++ l) (sym none)) (known.ledger_known c e)
+    same_on x not_close not_abandon none c e =
+        on start calls x c c (λ q. not_close (ap sort q)) (λ q. not_abandon (ap sort q)) refl refl (sym (append-nil c.lines) ∙ ap (λ l. c.lines ++ l) (sym none)) (known.ledger_known c e)
 
     same_later : (x : Call) → (sort x ≡ 4 → ⊥) → (n : ℕ) (c : Closing) → stands n at.standing ≡ Some c → StandsSince k start (calls ++ (x ∷ [])) c
-    same_later x not-withdraw n c e = later start calls x c (λ q. not-withdraw (ap sort q)) (known.standing_known n c e)
+    same_later x not_withdraw n c e = later start calls x c (λ q. not_withdraw (ap sort q)) (known.standing_known n c e)
 
     abbrev Next : Call → State → Type 0
     Next x t = ((c : Closing) → t.ledger ≡ Some c → OpenSince k start (calls ++ (x ∷ [])) c) × ((n : ℕ) (c : Closing) → stands n t.standing ≡ Some c → StandsSince k start (calls ++ (x ∷ [])) c)

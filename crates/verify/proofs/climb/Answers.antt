@@ -85,5 +85,5 @@ returns g c =
     let o = c.in_default.ensures.found.0 in
     let ff = file_of k d s in (
       v.4 ∙ fields_done (join_refusal_at k h c.args.closing.0 ff) f.count f.index o,
-      v.3.own-is (omega (arith, o, v.2)) ∙ ap (path_node k h c.args.closing.0 ff) (let e : f.index - 4 ≡ d = omega (arith, o, v.2, f.narrow) in e),
+      v.3.own_is (omega (arith, o, v.2)) ∙ ap (path_node k h c.args.closing.0 ff) (let e : f.index - 4 ≡ d = omega (arith, o, v.2, f.narrow) in e),
     )

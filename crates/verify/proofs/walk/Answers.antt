@@ -25,12 +25,12 @@ returns-in-Ok-over g c s depth i f long below amount number walks =
     let py = step_is k s c.in-Step.part.now depth i y low below part c.in-Ok-read_node.ensures.1 in
     let pl = chosen (node_of m) b w.own st in
     let pr = chosen (node_of m) b st w.own in (
-      climbs k h n ff i low b bit x y l r (walks.own-is low) py pl pr c.in-Ok-over.ensures.0,
+      climbs k h n ff i low b bit x y l r (walks.own_is low) py pl pr c.in-Ok-over.ensures.0,
       record {
         customer_is = λ _. walks.customer_is (omega arith);
         salt_is = λ _. walks.salt_is (omega arith);
         height_is = omega (arith, walks.height_is);
-        own_is = λ _. c.in-Ok-over.ensures.1 ∙ above k h n ff i low b bit x y l r (walks.own-is low) py pl pr
+        own_is = λ _. c.in-Ok-over.ensures.1 ∙ above k h n ff i low b bit x y l r (walks.own_is low) py pl pr
             ∙ ap (path_node k h n ff) (let e : suc (i - 4) ≡ i + 1 - 4 = omega arith in e);
       },
     )
@@ -50,5 +50,5 @@ returns-in-Err-over g c s depth i f long below amount number walks =
     let bit : b ≡ is_left ff (i - 4) = c.on_left.ensures ∙ ap (λ x. eqb (x / 2 ^ w.height % 2) 0) number ∙ ap (λ x. eqb (ff.leaf / 2 ^ x % 2) 0) walks.height_is in
     let y = node_of m st in
     let py = step_is k s c.in-Step.part.now depth i y low below part c.in-Ok-read_node.ensures.1 in
-    stops k h n ff i low b bit (node_of m w.own) y (node_of m (cond b w.own st)) (node_of m (cond b st w.own)) (walks.own-is low) py
+    stops k h n ff i low b bit (node_of m w.own) y (node_of m (cond b w.own st)) (node_of m (cond b st w.own)) (walks.own_is low) py
     (chosen (node_of m) b w.own st) (chosen (node_of m) b st w.own) c.in-Err-over.field-0 c.args.found.offset f.offset_is c.in-Err-over.ensures
