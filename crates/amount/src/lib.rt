@@ -4,6 +4,7 @@
 //! A new kind is a crate of its own that implements `Amount` and shows the laws; nothing above may use more than they
 //! say. `specs/Rows` has the kinds whose amounts are rows of numbers, with their laws shown once for every such kind.
 #![tactic(auto)]
+
 ghost use Rattle.std.specs.Prelude.{◌≡◌, ℕ, ◌<◌, ◌≤◌, false, T, List, length, Some, MatchOption, slice_index};
 ghost use Rattle.refusal.specs.Tables.{Answers, written};
 ghost use Rattle.amount.specs.Kinds.{Kind, Laws, join_refusal, read_refusal, write_refusal};

@@ -2,6 +2,7 @@
 //!
 //! A third store is a third case of the enum, of its meaning and of each call here.
 #![tactic(auto)]
+
 ghost use Rattle.anystore.specs.Meaning.{any_meaning};
 ghost use Rattle.flat.specs.Sounds.{flat_sound};
 ghost use Rattle.chained.specs.Sounds.{chained_sound};

@@ -3,6 +3,7 @@
 //! No code runs here. Each function stands for a theorem over every kind of amount, every digest, every two stores and every
 //! list of calls.
 #![tactic(auto)]
+
 ghost use Rattle.audit.specs.Promise.{AuditPromise, HonestAudit};
 
 // The tally stays under the total, nobody who passes is left out, and shown texts are a collision.

@@ -2,6 +2,7 @@
 //!
 //! Nothing else belongs here; the work has to stay that of `bench/slots.c`, step by step.
 #![tactic(auto)]
+
 use flat::types::Flat;
 use numbering::{Closing, Key, Place};
 use std::alloc::Global;

@@ -4,6 +4,7 @@
 //! that `measure` refuses it has an empty span and no room. The order of the records in a chain, and which record a key
 //! gets, may be changed here, as long as the contracts of `NodeStore` and of `new` stay.
 #![tactic(auto)]
+
 ghost use Rattle.std.specs.Prelude.{◌≡◌, ℕ, ◌+◌, ◌<◌, ◌≤◌, true, length, if◌then◌else◌, Some, None, vec_len, nat_eq, slice_index};
 ghost use Rattle.refusal.specs.declared.cases.Refusal.TheVariants.{MemoryUnfit};
 ghost use Rattle.refusal.specs.Tables.{Answers};

@@ -3,6 +3,7 @@
 //! What is written here knows nothing of flat or chained stores. It is the pattern for a caller whose puts cannot be
 //! refused: see the room once, and go on.
 #![tactic(auto)]
+
 ghost use Rattle.std.specs.Prelude.{◌≡◌, ℕ, ◌+◌, ◌^◌, ◌<◌, ◌≤◌, true, false, length, is_some, Some, None, nat_le};
 ghost use Rattle.std.specs.Option.{unwrap_or};
 ghost use Rattle.refusal.specs.Tables.{Answers};

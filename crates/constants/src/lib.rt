@@ -3,6 +3,7 @@
 //! Two tables and their rule: the first 32 bits behind the point of the cube roots of the first 64 primes, and of the
 //! square roots of the first eight. Nothing here is to be changed but by a change of the standard.
 #![tactic(auto)]
+
 ghost use Rattle.std.specs.Prelude.{◌≡◌};
 ghost use Rattle.constants.specs.Tables.{round_constants, initial_hash};
 ghost use Rattle.constants.specs.Roots.{primes, Fractions};

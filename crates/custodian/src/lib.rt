@@ -5,6 +5,7 @@
 //! `Keeps` and `Keeps-open` tie the custodian's fields and the meanings of its stores to that state. How stores lie in
 //! memory is not known here; a change of a text or a layout is made below.
 #![tactic(auto)]
+
 ghost use Rattle.std.specs.Prelude.{◌≡◌, ℕ, ◌+◌, ◌-◌, ◌^◌, ◌<◌, ◌≤◌, true, not, ◌&&◌, ◌||◌, List, [], ◌∷◌, ◌++◌, length, take, is_some, IfErr, Some, None, MatchOption, MatchResult, OnErr, OnOk, ◌≢◌, nat_le, nat_lt};
 ghost use Rattle.refusal.specs.Tables.{Answers};
 ghost use Rattle.store.specs.Meaning.{Meaning, in_span};

@@ -3,6 +3,7 @@
 //! `specs/Hashes` is what the rest of the library knows of digests. The meaning belongs to the value, so that an enum
 //! of digests is one too. A new digest implements `Digest` and shows the laws; nothing above may ask which it is.
 #![tactic(auto)]
+
 ghost use Rattle.std.specs.Prelude.{◌≡◌, ℕ, List};
 ghost use Rattle.refusal.specs.Tables.{Answers};
 ghost use Rattle.digest.specs.Hashes.{Hash, HashLaws, too_long};

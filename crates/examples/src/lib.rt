@@ -2,6 +2,7 @@
 //!
 //! Two tables, `specs/Table`; a new example is a new row of one. Nothing rests on this crate.
 #![tactic(auto)]
+
 ghost use Rattle.std.specs.Prelude.{◌≡◌, T, length};
 ghost use Rattle.examples.specs.Table.{rows, audit_rows, hold};
 

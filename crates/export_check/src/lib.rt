@@ -2,6 +2,7 @@
 //!
 //! One function over numbers and byte slices; nothing of the library rests on it.
 #![tactic(auto)]
+
 ghost use Rattle.std.specs.Prelude.{◌≡◌, Some, None};
 ghost use Rattle.refusal.specs.declared.cases.Refusal.{Refusal as RefusalSaid};
 ghost use Rattle.amount.specs.Rows.{single};
@@ -9,9 +10,9 @@ ghost use Rattle.digest.specs.Digests.{fips};
 ghost use Rattle.sheet.specs.Layout.{Sheet as SheetSaid, read_sheet};
 ghost use Rattle.verify.specs.Checks.{check_refusal, leaf_place};
 
-use verify::check;
 use digest::kinds::Sha256;
 use single::Single;
+use verify::check;
 
 // The leaf's place where the file passes under the sheet, and 0 where it is refused.
 #[unsafe(no_mangle)]

@@ -2,6 +2,7 @@
 //!
 //! One function over numbers and byte slices; nothing of the library rests on it.
 #![tactic(auto)]
+
 ghost use Rattle.std.specs.Prelude.{◌≡◌, length};
 ghost use Rattle.sha256.specs.Sha256 as spec;
 

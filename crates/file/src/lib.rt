@@ -3,6 +3,7 @@
 //! `specs/Layout` has the layout once, `specs/Fields` where each field stands. The reader hands out parts of the file
 //! itself and copies nothing; it judges no content.
 #![tactic(auto)]
+
 ghost use Rattle.std.specs.Prelude.{◌≡◌, ℕ, ◌+◌, ◌-◌, ◌*◌, ◌<◌, ◌≤◌, length, MatchOption};
 ghost use Rattle.file.specs.Layout.{file_length};
 ghost use Rattle.file.specs.Fields.{offset_at, length_at, HasIndex, bytes_of, field_count, IsField};

@@ -4,6 +4,7 @@
 //! `measure` refuses it has an empty span and no room. How slots are found or cleared may be changed here, as long as
 //! the contracts of `NodeStore` and of `new` stay.
 #![tactic(auto)]
+
 ghost use Rattle.std.specs.Prelude.{◌≡◌, ℕ, ◌+◌, ◌-◌, ◌*◌, ◌<◌, ◌≤◌, true, length, is_some, if◌then◌else◌, Some, None, vec_len, ◌≢◌, slice_index, slice_set};
 ghost use Rattle.refusal.specs.declared.cases.Refusal.TheVariants.{MemoryUnfit};
 ghost use Rattle.refusal.specs.Tables.{Answers};

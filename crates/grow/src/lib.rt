@@ -4,6 +4,7 @@
 //! there on the way. Nothing here is refused: the room was seen when the ledger was opened, and every joint amount is under
 //! the total. Where a store or a joining refuses all the same, the node is left out.
 #![tactic(auto)]
+
 ghost use Rattle.std.specs.Prelude.{◌≡◌, ℕ, ◌+◌, ◌-◌, ◌*◌, ◌^◌, ◌<◌, ◌≤◌, true, T, List, length, Some, None, MatchOption};
 ghost use Rattle.node.specs.Texts.{Node as NodeSaid, node_bytes, inner_node};
 ghost use Rattle.node.specs.Meant.{node_of};

@@ -2,6 +2,7 @@
 //!
 //! Only how bytes are printed; nothing of the library rests on it.
 #![tactic(auto)]
+
 use std::fmt;
 
 #[derive(Clone, Copy)]

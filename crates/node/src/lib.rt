@@ -3,6 +3,7 @@
 //! `specs/Texts` has each text once. Everything above builds its nodes here and hashes nothing itself. A change of a
 //! text is made in `specs/Texts` and in the function of the same name.
 #![tactic(auto)]
+
 ghost use Rattle.std.specs.Prelude.{◌≡◌, ℕ, ◌+◌, ◌*◌, ◌<◌, ◌≤◌, not, List, [], ◌∷◌, ◌++◌, length, take, drop, is_some, Some, nat_lt};
 ghost use Rattle.refusal.specs.declared.cases.Refusal.TheVariants.{BadAmount, BufferTooShort};
 ghost use Rattle.refusal.specs.Tables.{◌⇒◌, first, written, Answers};

@@ -3,6 +3,7 @@
 //! The room of byte-level definitions and their lemmas. Everything that lays out bytes rests on `specs/BigEndian`;
 //! a change there reaches every layout. It knows nothing of amounts, digests or trees.
 #![tactic(auto)]
+
 ghost use Rattle.std.specs.Prelude.{◌≡◌, ℕ, ◌<◌, List, length, take, MatchOption};
 ghost use Rattle.octets.specs.BigEndian.{be, value};
 ghost use Rattle.octets.specs.Tests.{same};

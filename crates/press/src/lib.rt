@@ -3,6 +3,7 @@
 //! The stores hold nodes and leaf texts in the bytes that sheets and files want, so that they are copied and not read. Every
 //! record is fetched under the closing's own number. What is written fills its own length and leaves the rest of the buffer.
 #![tactic(auto)]
+
 ghost use Rattle.std.specs.Prelude.{◌≡◌, ℕ, ◌+◌, ◌-◌, ◌*◌, ◌/◌, ◌^◌, ◌<◌, ◌≤◌, List, [], ◌∷◌, ◌++◌, length, drop, Some, nat_lt};
 ghost use Rattle.std.specs.List.{slice_get};
 ghost use Rattle.refusal.specs.declared.cases.Refusal.TheVariants.{BufferTooShort};
@@ -18,10 +19,10 @@ ghost use Rattle.closing.specs.Closings.{Closing as ClosingSaid, sheet_said, fil
 ghost use Rattle.press.specs.Standing.{TreeStands, TextsStand};
 
 use amount::Amount;
-use octets::be4;
 use client::fetch;
 use digest::Digest;
 use numbering::{Closing, Key, Leaf, Place};
+use octets::be4;
 use refusal::cases::Refusal;
 use sheet::head;
 use store::NodeStore;

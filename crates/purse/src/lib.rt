@@ -2,6 +2,7 @@
 //!
 //! The bound is in the type: no number of a `Purse` is above 2^63 - 1. Only this crate knows that there are four.
 #![tactic(auto)]
+
 ghost use Rattle.std.specs.Prelude.{ℕ, ◌^◌, ◌<◌, [], ◌∷◌, slice_index, refl};
 ghost use Rattle.amount.specs.Rows.{four, purse as purse_kind};
 ghost use Rattle.amount.proofs.RowLaws.{purse_laws, writable_out, places};

@@ -3,6 +3,7 @@
 //! Every call of the library refuses with a `Refusal`; `specs/Refusals` has its number and offset, and `specs/Tables`
 //! what it means that the first row of a table decides. A new refusal is a new case here and in those two.
 #![tactic(auto)]
+
 ghost use Rattle.std.specs.Prelude.{◌≡◌};
 ghost use Rattle.refusal.specs.Refusals.{number_of, offset_of};
 

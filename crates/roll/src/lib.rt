@@ -3,6 +3,7 @@
 //! A fixed table, so that closing a ledger allocates nothing and cannot fail. What it says is the list of its first `len`
 //! rows. No other room of the library is known here but the numberings.
 #![tactic(auto)]
+
 ghost use Rattle.std.specs.Prelude.{◌≡◌, ℕ, ◌+◌, ◌<◌, ◌≤◌, List, [], ◌∷◌, ◌++◌, length, take};
 ghost use Rattle.roll.specs.Rolls.{under_number, without_number};
 ghost use Rattle.roll.specs.Stands.{number_of};

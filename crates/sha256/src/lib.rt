@@ -3,6 +3,7 @@
 //! One function for the world, `sha256`; the others are its parts, each tied to the part of the definition of the same
 //! name. The code may be made faster as long as the contracts stand; the definition is not to be touched.
 #![tactic(auto)]
+
 ghost use Rattle.std.specs.Prelude.{◌≡◌, ℕ, ◌+◌, ◌-◌, ◌*◌, ◌/◌, ◌%◌, ◌^◌, ◌<◌, ◌≤◌, List, ◌++◌, length, take, replicate, slice_index};
 ghost use Rattle.constants.specs.Tables.{round_constants};
 ghost use Rattle.sha256.specs.Words.{choose, majority, Σ0, Σ1, σ0, σ1};

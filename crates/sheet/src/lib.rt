@@ -3,6 +3,7 @@
 //! `specs/Layout` has the layout once: kinds, depth and closing, the root's digest and the total. A change of the layout
 //! is made there and in the two functions here.
 #![tactic(auto)]
+
 ghost use Rattle.std.specs.Prelude.{◌≡◌, ℕ, ◌+◌, ◌<◌, false, not, ◌&&◌, [], ◌∷◌, length, Some, None, nat_eq, nat_lt};
 ghost use Rattle.refusal.specs.declared.cases.Refusal.TheVariants.{BufferTooShort};
 ghost use Rattle.refusal.specs.Tables.{◌⇒◌, first, written, Answers};
@@ -13,10 +14,10 @@ ghost use Rattle.sheet.specs.Meant.{sheet_of};
 pub mod types;
 
 use amount::Amount;
-use octets::{be4, read4};
 use digest::Digest;
 use node::{read_node, write_node};
 use numbering::Closing;
+use octets::{be4, read4};
 use refusal::cases::Refusal;
 use tree::bad_limits;
 use types::Sheet;

@@ -2,6 +2,7 @@
 //!
 //! The bound is in the type: no `Single` above 2^63 - 1 exists. Only this crate knows that its meaning is one number.
 #![tactic(auto)]
+
 ghost use Rattle.std.specs.Prelude.{[], ◌∷◌, ◌^◌, ◌<◌, refl};
 ghost use Rattle.amount.specs.Rows.{single as single_kind};
 ghost use Rattle.amount.proofs.RowLaws.{single_laws, writable_out};

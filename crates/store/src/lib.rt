@@ -3,6 +3,7 @@
 //! `specs/Meaning` and `specs/Calls` are all that the rest of the library knows of stores. A new store implements
 //! `NodeStore` over its own representation; nothing above this crate may use more than the contracts here say.
 #![tactic(auto)]
+
 ghost use Rattle.std.specs.Prelude.{◌≡◌, ℕ, ◌<◌, ◌≤◌, not, [], ◌∷◌, length, ◌==◌};
 ghost use Rattle.refusal.specs.declared.cases.Refusal.TheVariants.{KeyOutside, WrongWidth};
 ghost use Rattle.refusal.specs.Tables.{◌⇒◌, first as decides, Answers};

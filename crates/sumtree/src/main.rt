@@ -3,6 +3,7 @@
 //! The language is that of docs/SCRIPT.md. The program reads a call, makes it and shows its answer; it decides nothing
 //! itself. A new call is a case of `Call` and an arm of `Session::answer`.
 #![tactic(auto)]
+
 ghost use Rattle.std.specs.Prelude.{◌≡◌, ◌<◌, false, length};
 
 mod calls;

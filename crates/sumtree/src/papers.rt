@@ -2,11 +2,11 @@
 use crate::words::show_bytes;
 use crate::{Answer, refused};
 use amount::Amount;
-use verify::check;
 use digest::kinds::AnyDigest;
 use file::Fields;
 use file::types::{Field, Found};
 use std::alloc::{AllocError, Global};
+use verify::check;
 
 pub(crate) fn place<A: Amount>(
     heap: Global,

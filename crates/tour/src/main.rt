@@ -4,10 +4,9 @@
 //! It reads data/ledger.txt (a closing and a depth, then a line for each balance: customer number, salt and cents) and
 //! prints every step, so that a person can follow it.
 #![tactic(auto)]
+
 use amount::Amount;
 use anyhow::anyhow;
-use octets::{be4, be8};
-use verify::check;
 use digest::kinds::Sha256;
 use file::Fields;
 use file::types::{Field, Found};
@@ -16,6 +15,7 @@ use hexadecimal::Hex;
 use node::types::{Line, Node};
 use node::{inner, leaf, padding, read_node, write_node};
 use numbering::{Closing, Key, Leaf, Place};
+use octets::{be4, be8};
 use refusal::cases::Refusal;
 use sheet::head;
 use sheet::types::Sheet;
@@ -25,6 +25,7 @@ use std::{fs, io};
 use store::NodeStore;
 use store::limits::Limits;
 use tree::tree_node;
+use verify::check;
 
 #[derive(Drop)]
 struct Ledger {

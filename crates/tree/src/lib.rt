@@ -3,6 +3,7 @@
 //! `specs/Trees` is the tree that every root, file and audit is about: what stands at each place, from the lines alone.
 //! The function `tree_node` computes it so, for whoever wants to compare.
 #![tactic(auto)]
+
 ghost use Rattle.std.specs.Prelude.{◌≡◌, ℕ, ◌+◌, ◌-◌, ◌*◌, ◌^◌, ◌<◌, ◌≤◌, not, ◌||◌, [], ◌∷◌, nat_le, nat_lt};
 ghost use Rattle.refusal.specs.declared.cases.Refusal.TheVariants.{JoinUnwritable};
 ghost use Rattle.refusal.specs.Tables.{◌⇒◌, first, Answers};

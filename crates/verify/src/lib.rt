@@ -3,6 +3,7 @@
 //! `specs/Paths` says what a file says along its path, `specs/Checks` when it is refused; the audit is stated with these
 //! too. The file is gone through twice by its reader: for the amounts, then upwards.
 #![tactic(auto)]
+
 ghost use Rattle.std.specs.Prelude.{◌≡◌, ℕ, ◌+◌, ◌-◌, ◌*◌, ◌/◌, ◌%◌, ◌^◌, ◌<◌, ◌≤◌, not, T, List, [], ◌∷◌, length, drop, is_some, IsOkAnd, if◌then◌else◌, Some, None, ◌==◌};
 ghost use Rattle.refusal.specs.Tables.{Answers};
 ghost use Rattle.sheet.specs.Meant.{sheet_of};
@@ -23,13 +24,13 @@ ghost use Rattle.file.specs.Fields.{field_bytes, length_at};
 mod types;
 
 use amount::Amount;
-use octets::{read4, same_bytes};
 use digest::Digest;
 use file::Fields;
 use file::types::{Field, Found};
 use node::types::{Line, Node};
 use node::{inner, leaf, read_node, write_node};
 use numbering::{Closing, Place};
+use octets::{read4, same_bytes};
 use refusal::cases::Refusal;
 use sheet::head;
 use sheet::types::Sheet;
