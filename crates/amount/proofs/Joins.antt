@@ -1,5 +1,5 @@
 -- What the laws of a kind give, whatever the kind.
-use Rattle.std.proofs.Common.{◌≡◌, ℕ, T, List, length, sym, refl, ap, ◌∙◌, subst}
+use Rattle.std.proofs.Common.{◌≡◌, ℕ, T, List, length, subst}
 use Rattle.amount.specs.Kinds.{Kind, Laws}
 
 module _ {k : Kind} (laws : Laws k) (x y : List ℕ) (p : length x ≡ k.count) (q : length y ≡ k.count) where

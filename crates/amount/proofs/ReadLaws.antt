@@ -1,5 +1,5 @@
 -- What reading answers, in the form of the contract.
-use Rattle.std.proofs.Common.{◌≡◌, ℕ, true, false, cond, not, T, List, [], ◌∷◌, is_some, Some, None, Option, sym, refl, ap, ◌∙◌}
+use Rattle.std.proofs.Common.{◌≡◌, ℕ, false, cond, not, T, List, [], ◌∷◌, is_some, Some, None, Option, sym, refl, ap, ◌∙◌}
 use Rattle.refusal.specs.declared.cases.Refusal.TheVariants.{BadAmount}
 use Rattle.refusal.specs.Tables.{◌⇒◌, first}
 use Rattle.amount.specs.Kinds.{Kind, Laws}

@@ -1,13 +1,11 @@
 -- The kinds made of rows of numbers keep the laws.
-use Rattle.std.proofs.Common.{◌≡◌, ℕ, zero, suc, ◌+◌, ◌*◌, ◌^◌, ◌<◌, ◌≤◌, Bool, true, false, cond, ◌&&◌, T, eqb, ltb, leb, List, [], ◌∷◌, ◌++◌, length, get_or, take, drop, replicate, Some, None, Option, sym, refl, ap, ◌∙◌, subst, add_assoc, add_comm, zero-add, arith, le→leb, eqb→eq, ltb→lt, lt→ltb, leb→le, length-append}
-use native.Mathlib.Nat.{suc_inj}
+use Rattle.std.proofs.Common.{◌≡◌, ℕ, zero, suc, ◌*◌, ◌^◌, ◌<◌, ◌≤◌, Bool, true, false, cond, ◌&&◌, T, eqb, leb, List, [], ◌∷◌, length, get_or, replicate, Some, None, Option, sym, refl, ap, ◌∙◌, subst, add_assoc, add_comm, zero-add, arith, le→leb, eqb→eq, ltb→lt, lt→ltb, leb→le}
 use lib.ListN.{length-replicate}
-use Rattle.std.proofs.lemmas.List.{take_at, drop_at}
 use Rattle.octets.specs.BigEndian.{be, value}
 use Rattle.octets.specs.Tests.{same, every}
-use Rattle.octets.proofs.Numbers.{be_length, value_be_small}
+use Rattle.octets.proofs.Numbers.{value_be_small}
 use Rattle.octets.proofs.Passes.{both_in, both_out, eqb_in, same_refl, same_out, true_T, false_T}
-use Rattle.amount.specs.Kinds.{Kind, Laws}
+use Rattle.amount.specs.Kinds.{Laws}
 use Rattle.amount.specs.Rows.{plus, at_most, small, writable, bytes, numbers, read, rows, single, purse, four}
 
 abbrev pub All : (ℕ → Type 0) → List ℕ → Type 0

@@ -1,5 +1,5 @@
 -- What a kind of amount is. An amount means a list of `count` whole numbers.
-use Rattle.std.specs.Prelude.{◌≡◌, ℕ, ◌≤◌, Bool, not, T, List, [], ◌∷◌, length, is_some, Some, None, Option, nat_lt}
+use Rattle.std.specs.Prelude.{◌≡◌, ℕ, ◌≤◌, Bool, not, T, List, [], ◌∷◌, length, is_some, Some, Option, nat_lt}
 use Rattle.refusal.specs.declared.cases.Refusal.{Refusal}
 use Rattle.refusal.specs.declared.cases.Refusal.TheVariants.{BadAmount, JoinUnwritable, BufferTooShort}
 use Rattle.refusal.specs.Tables.{◌⇒◌, first}

@@ -1,8 +1,8 @@
 -- Walks along chains, scans over records, and what another record's change leaves.
-use Rattle.std.proofs.Common.{◌≡◌, ℕ, zero, suc, ◌+◌, ◌-◌, ◌*◌, ◌<◌, ◌≤◌, Bool, true, false, cond, ◌&&◌, eqb, ◌⊎◌, List, [], ◌∷◌, length, sym, refl, ap, ◌∙◌, subst, inl, inr, arith}
+use Rattle.std.proofs.Common.{◌≡◌, ℕ, zero, suc, ◌<◌, ◌≤◌, true, false, cond, ◌&&◌, eqb, List, [], ◌∷◌, length, sym, refl, ap, ◌∙◌, inl, inr, arith}
 use Rattle.std.proofs.lemmas.Bool.{cases_eq, cases_Bool, cond-true, cond-false, eq-eqb, ne_eqb, eqb-true, and_parts, and_from}
-use Rattle.chained_theory.specs.Layout.{next_at, closing_at, place_at, head_at, has_key, seek_from, scan_at}
-use Rattle.chained_theory.specs.Links.{Links, seek_list, Fresh, Apart, Dead, Live, SameRecord}
+use Rattle.chained_theory.specs.Layout.{next_at, closing_at, place_at, has_key, seek_from, scan_at}
+use Rattle.chained_theory.specs.Links.{Links, seek_list, Fresh, Dead, Live, SameRecord}
 
 -- the walk finds what the chain's list has
 pub walk_seeks : (mem : List ℕ) (w n fuel i : ℕ) (xs : List ℕ) (c p : ℕ) → Links mem w n i xs → length xs ≤ fuel → seek_from mem w fuel i c p ≡ seek_list mem w xs c p

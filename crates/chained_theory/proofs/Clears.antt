@@ -1,14 +1,13 @@
 -- Counts of a closing's records, and a closing forgotten.
-use Rattle.std.proofs.Common.{◌≡◌, ℕ, zero, suc, ◌+◌, ◌-◌, ◌*◌, ◌<◌, ◌≤◌, Bool, true, false, cond, not, ◌&&◌, eqb, ◌≢◌, ◌⊎◌, List, [], ◌∷◌, length, is_some, Some, None, Option, sym, refl, ap, ◌∙◌, subst, inl, inr, add-one, arith}
-use Rattle.std.proofs.lemmas.Bool.{cases_eq, cases_Bool, cond-true, cond-false, eq-eqb, ne_eqb, eqb-true}
-use Rattle.memory.specs.Part.{part}
+use Rattle.std.proofs.Common.{◌≡◌, ℕ, zero, suc, ◌+◌, ◌-◌, ◌<◌, ◌≤◌, Bool, true, false, cond, not, ◌&&◌, eqb, List, is_some, None, sym, refl, ap, ◌∙◌, inl, inr, add-one, arith}
+use Rattle.std.proofs.lemmas.Bool.{cases_eq, cases_Bool, cond-true, cond-false, eq-eqb, ne_eqb}
 use Rattle.store.specs.Counts.{tally, held}
 use Rattle.store.specs.Calls.{Cleared}
 use Rattle.store.proofs.Tallies.{tally_same, tally_put, tally_two, tally_all, tally_none, tally_le}
 use Rattle.store.specs.Meaning.{holds_key}
-use Rattle.chained_theory.specs.Layout.{start_of, next_at, closing_at, place_at, head_at, bucket_of, has_key, seek_in, scan_at, count_of, record_at, chained_find, chained_of, without}
+use Rattle.chained_theory.specs.Layout.{closing_at, place_at, has_key, seek_in, scan_at, count_of, record_at, chained_find, chained_of}
 use Rattle.chained_theory.specs.Links.{Laid, Keys, Linked, Forgot}
-use Rattle.store.proofs.Inside.{key_out, span_out}
+use Rattle.store.proofs.Inside.{key_out}
 use Rattle.chained_theory.proofs.Walks.{isSome_chained_find}
 use Rattle.chained_theory.proofs.Chains.{scan_same, scan_has, no_scan, has_parts, key_there, no_key}
 use Rattle.chained_theory.proofs.Puts.{same_record}

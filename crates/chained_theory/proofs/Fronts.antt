@@ -1,11 +1,11 @@
 -- A record put in front of a chain: the chains after it, and what walks find.
-use Rattle.std.proofs.Common.{◌≡◌, ℕ, zero, suc, ◌+◌, ◌-◌, ◌*◌, ◌%◌, ◌<◌, ◌≤◌, Bool, true, false, cond, ◌&&◌, eqb, ◌≢◌, ◌⊎◌, List, [], ◌∷◌, length, sym, refl, ap, ◌∙◌, subst, inl, inr, add-one, arith}
+use Rattle.std.proofs.Common.{◌≡◌, ℕ, suc, ◌+◌, ◌-◌, ◌<◌, ◌≤◌, Bool, true, cond, ◌&&◌, eqb, List, ◌∷◌, length, sym, refl, ap, ◌∙◌, subst, inl, inr, add-one, arith}
 use Rattle.std.proofs.lemmas.Bool.{cases_eq, cases_Bool, cond-true, cond-false, eq-eqb, ne_eqb, both_ways, and_right, and_from}
-use Rattle.store.specs.Counts.{sum_to, tally}
+use Rattle.store.specs.Counts.{sum_to}
 use Rattle.store.proofs.Tallies.{sum_to_change, le_sum_to, tally_same, tally_put}
-use Rattle.chained_theory.specs.Layout.{start_of, next_at, closing_at, place_at, head_at, bucket_of, has_key, seek_from, seek_in, scan_at, count_of, home_of}
+use Rattle.chained_theory.specs.Layout.{next_at, closing_at, place_at, head_at, bucket_of, has_key, seek_in, scan_at, count_of, home_of}
 use Rattle.chained_theory.specs.Links.{Links, seek_list, Fresh, Apart, Dead, Live, Laid, SameRecord, Pushed, Fronted}
-use Rattle.chained_theory.proofs.Chains.{walk_seeks, low_fresh, live_fresh, links_stay, key_stays, seek_stays, dead_stay, live_stay, scan_same, scan_new, scan_none, has_parts, key_there, no_key}
+use Rattle.chained_theory.proofs.Chains.{walk_seeks, low_fresh, live_fresh, links_stay, key_stays, seek_stays, dead_stay, live_stay, scan_same, scan_new, has_parts, key_there, no_key}
 
 abbrev pub fore : ℕ → ℕ → (ℕ → List ℕ) → ℕ → List ℕ
 fore x b base j = cond (eqb j b) (x ∷ base j) (base j)

@@ -1,5 +1,5 @@
 -- A written key in a chained store, written again.
-use Rattle.std.proofs.Common.{◌≡◌, ℕ, zero, suc, ◌+◌, ◌-◌, ◌*◌, ◌<◌, ◌≤◌, Bool, true, false, cond, ◌&&◌, eqb, ◌⊎◌, List, [], ◌∷◌, length, get_or, is_some, Some, None, Option, sym, refl, ap, ◌∙◌, subst, inl, inr, arith}
+use Rattle.std.proofs.Common.{◌≡◌, ℕ, ◌+◌, ◌*◌, ◌<◌, ◌≤◌, true, cond, ◌&&◌, eqb, ◌⊎◌, List, [], ◌∷◌, length, get_or, is_some, Some, None, sym, refl, ap, ◌∙◌, subst, inl, inr, arith}
 use Rattle.std.proofs.lemmas.Bool.{cases_eq, cases_Bool, cond-true, cond-false, ne_eqb}
 use Rattle.memory.specs.Part.{part, patch}
 use Rattle.memory.proofs.Parts.{length_patch, getD_patch, part_patch, part_same}
@@ -7,7 +7,7 @@ use Rattle.store.specs.Calls.{Put}
 use Rattle.store.proofs.Tallies.{tally_same, le_sum_to}
 use Rattle.store.specs.Meaning.{holds_key}
 use Rattle.chained_theory.specs.Layout.{start_of, next_at, closing_at, place_at, head_at, bucket_of, has_key, seek_in, scan_at, count_of, record_at, chained_find, chained_of}
-use Rattle.chained_theory.specs.Links.{Links, Fresh, seek_list, Laid, Keys, Linked, SameRecord}
+use Rattle.chained_theory.specs.Links.{Links, Fresh, Laid, Linked, SameRecord}
 use Rattle.store.proofs.Inside.{key_out}
 use Rattle.chained_theory.proofs.Walks.{record_fits}
 use Rattle.chained_theory.proofs.Chains.{walk_seeks, links_stay, seek_stays, dead_stay, live_stay, scan_same, scan_has, has_parts}

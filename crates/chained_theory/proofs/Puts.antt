@@ -1,11 +1,11 @@
 -- A new key in a chained store.
-use Rattle.std.proofs.Common.{◌≡◌, ℕ, ◌+◌, ◌-◌, ◌*◌, ◌<◌, ◌≤◌, Bool, true, false, cond, eqb, ltb, leb, ◌⊎◌, List, [], ◌∷◌, length, is_some, Some, None, Option, sym, refl, ap, ◌∙◌, subst, inl, inr, arith}
-use Rattle.std.proofs.lemmas.Bool.{cases_eq, cases_Bool, cond-true, cond-false, eq-eqb, ne_eqb, and_parts, leb-true, ltb-true}
+use Rattle.std.proofs.Common.{◌≡◌, ℕ, ◌+◌, ◌-◌, ◌*◌, ◌<◌, ◌≤◌, true, cond, eqb, List, [], ◌∷◌, length, is_some, Some, None, sym, refl, ap, ◌∙◌, subst, inl, inr, arith}
+use Rattle.std.proofs.lemmas.Bool.{cases_eq, cases_Bool, cond-true, cond-false, eq-eqb, ne_eqb}
 use Rattle.memory.specs.Part.{part}
 use Rattle.store.specs.Calls.{Put}
 use Rattle.store.specs.Meaning.{holds_key}
-use Rattle.chained_theory.specs.Layout.{start_of, next_at, closing_at, place_at, head_at, bucket_of, has_key, seek_in, scan_at, count_of, record_at, chained_find, chained_of, push_on}
-use Rattle.chained_theory.specs.Links.{Links, Dead, Laid, Keys, Linked, Pushed}
+use Rattle.chained_theory.specs.Layout.{start_of, next_at, closing_at, place_at, head_at, bucket_of, seek_in, scan_at, count_of, record_at, chained_find, chained_of, push_on}
+use Rattle.chained_theory.specs.Links.{Links, Dead, Laid, Linked, Pushed}
 use Rattle.store.proofs.Inside.{key_out}
 use Rattle.chained_theory.proofs.Chains.{scan_has, has_parts}
 use Rattle.chained_theory.proofs.Fronts.{push_laid, push_scan_here, push_scan_others, fewer}

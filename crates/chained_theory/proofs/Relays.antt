@@ -1,9 +1,9 @@
 -- The chains laid out anew, record by record.
-use Rattle.std.proofs.Common.{◌≡◌, ℕ, zero, suc, ◌+◌, ◌-◌, ◌*◌, ◌<◌, ◌≤◌, Bool, true, false, cond, ◌⊎◌, List, [], ◌∷◌, length, sym, refl, ap, ◌∙◌, subst, inl, inr, arith}
+use Rattle.std.proofs.Common.{◌≡◌, ℕ, suc, ◌+◌, ◌<◌, ◌≤◌, Bool, List, [], sym, refl, ap, ◌∙◌, inl, inr, arith}
 use Rattle.std.proofs.lemmas.Bool.{cases_eq}
 use Rattle.memory.specs.Part.{part}
 use Rattle.chained_theory.specs.Layout.{start_of, next_at, closing_at, place_at, head_at, without}
-use Rattle.chained_theory.specs.Links.{Laid, SameRecord, Fronted, Forgot}
+use Rattle.chained_theory.specs.Links.{Laid, Fronted, Forgot}
 use Rattle.chained_theory.proofs.Chains.{start_le}
 use Rattle.chained_theory.proofs.Writes.{Past}
 

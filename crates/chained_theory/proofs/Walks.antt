@@ -1,10 +1,10 @@
 -- Steps along a chain.
-use Rattle.std.proofs.Common.{◌≡◌, ℕ, zero, suc, ◌+◌, ◌-◌, ◌*◌, ◌<◌, ◌≤◌, Bool, true, false, cond, not, eqb, ltb, leb, ◌⊎◌, List, length, is_some, Some, None, sym, refl, ap, ◌∙◌, inl, inr, mul-le-mul_right, add-mul, one-mul, add-one, arith, length-drop, length-take}
+use Rattle.std.proofs.Common.{◌≡◌, ℕ, zero, suc, ◌+◌, ◌-◌, ◌*◌, ◌<◌, ◌≤◌, true, false, cond, not, eqb, List, length, is_some, Some, None, sym, refl, ap, ◌∙◌, inl, inr, mul-le-mul_right, add-mul, one-mul, arith, length-drop, length-take}
 use Rattle.memory.specs.Part.{part}
 use Rattle.std.proofs.lemmas.Bool.{cases_eq, cases_Bool, cond-true, cond-false, eq-eqb, ne_eqb, both_ways}
 use Rattle.store.specs.Meaning.{holds_key}
 use Rattle.store.proofs.Inside.{key_out, key_in}
-use Rattle.chained_theory.specs.Layout.{start_of, next_at, closing_at, place_at, head_at, bucket_of, has_key, seek_from, seek_in, chained_find, record_at}
+use Rattle.chained_theory.specs.Layout.{start_of, next_at, head_at, bucket_of, has_key, seek_from, seek_in, chained_find, record_at}
 
 pub next_record : (i j k : ℕ) → i < j → i * k + k ≤ j * k
 next_record i j k h = omega (arith, add-mul i 1 k, one-mul k, mul-le-mul_right {m = i + 1} {n = j} k (omega arith))

@@ -1,12 +1,12 @@
 -- What the bytes say after a record is pushed on a bucket.
-use Rattle.std.proofs.Common.{◌≡◌, ℕ, ◌+◌, ◌-◌, ◌*◌, ◌<◌, ◌≤◌, ◌≢◌, ◌⊎◌, List, length, get_or, sym, refl, ap, ◌∙◌, subst, inl, inr, arith}
+use Rattle.std.proofs.Common.{◌≡◌, ℕ, ◌+◌, ◌-◌, ◌*◌, ◌<◌, ◌≤◌, ◌⊎◌, List, length, get_or, sym, ap, ◌∙◌, inl, inr, arith}
 use Rattle.std.proofs.lemmas.Bool.{cases_order}
 use Rattle.memory.specs.Four.{be4, put4}
 use Rattle.memory.proofs.Fours.{length_put4, getD_put4, be4_put4_same, be4_put4_other}
-use Rattle.memory.specs.Part.{part, patch}
+use Rattle.memory.specs.Part.{part}
 use Rattle.memory.proofs.Parts.{length_patch, getD_patch, part_patch, part_same}
-use Rattle.chained_theory.specs.Layout.{start_of, next_at, closing_at, place_at, head_at, filled, push_on, front_of, without}
-use Rattle.chained_theory.specs.Links.{SameRecord, Pushed, Fronted, Forgot}
+use Rattle.chained_theory.specs.Layout.{start_of, next_at, closing_at, place_at, head_at, filled, push_on, front_of}
+use Rattle.chained_theory.specs.Links.{Pushed, Fronted}
 use Rattle.chained_theory.proofs.Walks.{next_record, record_fits}
 
 -- four bytes that stay

@@ -1,9 +1,9 @@
 -- What holds of a chained store between calls.
-use Rattle.std.specs.Prelude.{◌≡◌, ℕ, ◌+◌, ◌-◌, ◌*◌, ◌<◌, ◌≤◌, Bool, true, false, cond, List, [], ◌∷◌, length, ◌≢◌}
+use Rattle.std.specs.Prelude.{◌≡◌, ℕ, ◌+◌, ◌<◌, ◌≤◌, Bool, true, cond, List, [], ◌∷◌, length, ◌≢◌}
 use Rattle.memory.specs.Part.{part}
 use Rattle.store.specs.Counts.{sum_to}
 use Rattle.store.specs.Meaning.{holds_key}
-use Rattle.chained_theory.specs.Layout.{start_of, next_at, closing_at, place_at, head_at, bucket_of, has_key, seek_in, scan_at, count_of, without}
+use Rattle.chained_theory.specs.Layout.{start_of, next_at, closing_at, place_at, head_at, has_key, seek_in, scan_at, count_of, without}
 
 -- the chain from i has the records xs
 abbrev pub Links : List ℕ → ℕ → ℕ → ℕ → List ℕ → Type 0

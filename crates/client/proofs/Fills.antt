@@ -1,11 +1,11 @@
 -- A closing filled place by place.
-use Rattle.std.proofs.Common.{◌≡◌, ℕ, ◌+◌, ◌-◌, ◌<◌, ◌≤◌, Bool, true, false, cond, not, ◌&&◌, eqb, ltb, ◌⊎◌, List, is_some, Some, None, Option, sym, refl, ap, ◌∙◌, inl, inr, arith}
-use Rattle.std.proofs.lemmas.Bool.{cases_eq, cond-false, and_parts, eqb-true, ltb-true, ltb-false, both_ways}
+use Rattle.std.proofs.Common.{◌≡◌, ℕ, ◌+◌, ◌-◌, ◌<◌, ◌≤◌, Bool, true, false, cond, not, ◌&&◌, eqb, ltb, List, is_some, Some, None, refl, ap, ◌∙◌, inl, inr, arith}
+use Rattle.std.proofs.lemmas.Bool.{cases_eq, cond-false, and_parts, eqb-true, ltb-true, ltb-false}
 use Rattle.refusal.specs.declared.cases.Refusal.TheVariants.{KeyOutside, WrongWidth, Full}
-use Rattle.store.specs.Meaning.{Meaning, in_span, inside}
-use Rattle.store.specs.Counts.{held, tally, missing}
+use Rattle.store.specs.Meaning.{Meaning, in_span}
+use Rattle.store.specs.Counts.{held}
 use Rattle.store.specs.Calls.{SameLimits, Put, Cleared}
-use Rattle.store.proofs.Rooms.{put_room, put_missing, cleared_none}
+use Rattle.store.proofs.Rooms.{cleared_none}
 use Rattle.store.proofs.Tallies.{tally_none}
 use Rattle.client.specs.Fill.{fill_refusal, Filled}
 

@@ -1,5 +1,5 @@
 -- A closing filled with one record at each of its first n places.
-use Rattle.std.specs.Prelude.{◌≡◌, ℕ, ◌+◌, ◌<◌, ◌≤◌, Bool, not, ◌&&◌, ltb, List, [], ◌∷◌, Some, None, Option, ◌==◌, ◌≢◌, nat_lt}
+use Rattle.std.specs.Prelude.{◌≡◌, ℕ, ◌+◌, ◌≤◌, not, ◌&&◌, ltb, List, [], ◌∷◌, Some, None, Option, ◌==◌, ◌≢◌, nat_lt}
 use Rattle.refusal.specs.declared.cases.Refusal.{Refusal}
 use Rattle.refusal.specs.declared.cases.Refusal.TheVariants.{KeyOutside, WrongWidth, Full}
 use Rattle.refusal.specs.Tables.{◌⇒◌, first}

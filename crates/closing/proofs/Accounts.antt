@@ -1,16 +1,12 @@
 -- Lines, call by call.
-use Rattle.std.proofs.Common.{◌≡◌, ℕ, Bool, true, false, cond, not, ◌&&◌, ◌⊎◌, List, [], ◌∷◌, ◌++◌, is_some as option_is_some, Some, None, Option, sym, refl, ap, ◌∙◌, subst, inl, inr, append_assoc, append-nil, arith}
-use Rattle.std.specs.List.{AllByRecursion as All}
+use Rattle.std.proofs.Common.{◌≡◌, ℕ, Bool, true, false, cond, not, ◌&&◌, List, [], ◌∷◌, ◌++◌, is_some as option_is_some, Some, None, Option, sym, refl, ap, ◌∙◌, subst, inl, inr, append_assoc, append-nil, arith}
 use Rattle.std.proofs.ByRecursion.{All-push}
 use Rattle.std.proofs.lemmas.Bool.{both_ways, and_parts, not-true, not-false}
 use Rattle.refusal.specs.declared.cases.Refusal.{Refusal}
 use Rattle.refusal.specs.declared.cases.Refusal.TheVariants.{NotStanding}
 use Rattle.refusal.specs.Tables.{◌⇒◌, first}
 use Rattle.amount.specs.Kinds.{Kind}
-use Rattle.node.specs.Texts.{Line}
-use Rattle.store.specs.Meaning.{Meaning}
-use Rattle.closing.specs.Closings.{Closing, State, new, stands, no_lines, with_line, ledger_of, line, Call, Open, Enter, Close, Abandon, Withdraw, Write, Issue, open_refusal, enter_refusal, refusal, stopped, changed, unless_refused, next, after}
-use Rattle.closing.specs.Standings.{Lasts}
+use Rattle.closing.specs.Closings.{Closing, State, new, stands, with_line, ledger_of, line, Call, Open, Enter, Close, Abandon, Withdraw, Write, Issue, open_refusal, enter_refusal, refusal, stopped, changed, unless_refused, next, after}
 use Rattle.closing.specs.Accounts.{unless_turned_down, entered_line, lines_entered, OpenSince, StandsSince, LinesAccount}
 use Rattle.closing.proofs.Stands.{no_some, same_some, is_some, is_none, stands_number, stands_either, stood}
 use Rattle.closing.proofs.Accepted.{ledger_is}

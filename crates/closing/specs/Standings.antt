@@ -1,12 +1,12 @@
 -- What holds over every list of a new custodian's calls.
-use Rattle.std.specs.Prelude.{◌≡◌, ℕ, ◌+◌, ◌^◌, ◌≤◌, List, [], ◌∷◌, ◌++◌, length, take, Some, None, Option, ◌≢◌}
+use Rattle.std.specs.Prelude.{◌≡◌, ℕ, ◌+◌, ◌^◌, ◌≤◌, List, length, take, Some, None, ◌≢◌}
 use Rattle.std.specs.List.{AllByRecursion as All}
 use Rattle.amount.specs.Kinds.{Kind, Laws}
 use Rattle.digest.specs.Hashes.{Hash, HashLaws}
 use Rattle.sheet.specs.Layout.{Sheet, read_sheet}
 use Rattle.verify.specs.Checks.{check_refusal, leaf_place}
 use Rattle.store.specs.Meaning.{Meaning}
-use Rattle.closing.specs.Closings.{State, new, Call, Withdraw, Write, Issue, Answer, Wrote, after, answer}
+use Rattle.closing.specs.Closings.{State, new, Call, Withdraw, Write, Issue, Wrote, after, answer}
 
 -- closing n is not withdrawn in these calls
 abbrev pub Lasts : ℕ → List Call → Type 0

@@ -1,5 +1,5 @@
 -- What each call leads to, over plain meanings.
-use Rattle.std.proofs.Common.{◌≡◌, ℕ, ◌+◌, ◌-◌, ◌^◌, ◌<◌, ◌≤◌, Bool, true, false, cond, not, ◌&&◌, T, List, [], ◌∷◌, ◌++◌, map, length, is_some as option_is_some, Some, None, Option, unwrap_or, sym, refl, ap, ◌∙◌, subst, arith, length-append}
+use Rattle.std.proofs.Common.{◌≡◌, ℕ, ◌+◌, ◌^◌, ◌<◌, true, false, cond, not, ◌&&◌, T, List, [], ◌∷◌, ◌++◌, map, length, is_some as option_is_some, Some, None, unwrap_or, sym, refl, ap, ◌∙◌, subst, arith, length-append}
 use Rattle.std.proofs.lemmas.List.{map-append}
 use Rattle.refusal.specs.declared.cases.Refusal.{Refusal}
 use Rattle.refusal.specs.declared.cases.Refusal.TheVariants.{NotStanding}
@@ -16,10 +16,9 @@ use Rattle.roll.specs.declared.types.Stand.{Stand}
 use Rattle.roll.specs.Rolls.{without_number}
 use Rattle.roll.specs.Stands.{number_of}
 use Rattle.roll.proofs.Rolls.{without_map}
-use Rattle.closing.specs.Closings.{Closing, State, stands, no_lines, ledger_of, Call, Open, Enter, Close, Abandon, Withdraw, Write, Issue, Answer, with_line, line, Opened, Entered, Withdrawn, Refused, Stopped, open_refusal, enter_refusal, withdraw_refusal, refusal, stopped, opened, withdrawn, abandoned, closed, entered, changed, unless_refused, next, or_refused, answered, answer}
+use Rattle.closing.specs.Closings.{Closing, State, stands, no_lines, ledger_of, Call, Open, Enter, Close, Abandon, Withdraw, with_line, line, Opened, Entered, Withdrawn, Refused, Stopped, open_refusal, enter_refusal, withdraw_refusal, refusal, stopped, opened, withdrawn, abandoned, closed, entered, changed, unless_refused, next, or_refused, answered, answer}
 use Rattle.closing.specs.Holdings.{Represents}
 use Rattle.closing.proofs.Accepted.{withdraws, enters}
-use Rattle.closing.proofs.Stands.{is_some}
 use Rattle.closing.proofs.Fitting.{opening_clear, standing_clear, open_clear, open_put_node, open_put_text}
 use Rattle.closing.proofs.Steps.{represents_opened, represents_withdrawn, represents_abandoned, represents_entered}
 use Rattle.grow.specs.Growing.{IsClosing, Ripe, Grown}

@@ -1,6 +1,5 @@
 -- Sheets and files of closings that stand.
-use Rattle.std.proofs.Common.{◌≡◌, ℕ, ◌+◌, ◌<◌, ◌≤◌, Bool, true, false, cond, not, ltb, List, [], ◌∷◌, ◌++◌, length, get_or, is_some, Some, None, Ok, Err, Option, Result, unwrap_or, sym, refl, ap, ◌∙◌, subst, arith}
-use Rattle.std.specs.Option.{option_map}
+use Rattle.std.proofs.Common.{◌≡◌, ℕ, ◌+◌, ◌<◌, ◌≤◌, cond, not, ltb, List, [], ◌∷◌, length, get_or, is_some, Some, None, Ok, Err, Option, Result, unwrap_or, sym, refl, ap, ◌∙◌, subst, arith}
 use Rattle.std.specs.List.{slice_get}
 use Rattle.std.proofs.lemmas.Option.{slice_get-get_or, slice_get_past}
 use Rattle.refusal.specs.declared.cases.Refusal.{Refusal}
@@ -14,12 +13,12 @@ use Rattle.store.specs.Meaning.{Meaning}
 use Rattle.roll.specs.declared.types.Stand.{Stand}
 use Rattle.roll.specs.Rolls.{under_number}
 use Rattle.roll.specs.Stands.{number_of}
-use Rattle.closing.specs.Closings.{Closing, State, stands, no_lines, standing_of, line_of, no_line, Call, Write, Issue, Answer, Wrote, Refused, Stopped, write_refusal, issue_refusal, sheet_said, file_said, wrote, or_refused, answer}
+use Rattle.closing.specs.Closings.{Closing, State, stands, no_lines, standing_of, line_of, no_line, Write, Issue, Wrote, Refused, Stopped, write_refusal, issue_refusal, sheet_said, file_said, wrote, or_refused, answer}
 use Rattle.closing.proofs.Fitting.{nodes_suited, leaves_suited}
 use Rattle.press.specs.Standing.{TreeStands, TextsStand}
 use Rattle.custodian.specs.Keeping.{brief, told, Keeps}
 use Rattle.custodian.proofs.Rows.{found, found_closing, found_nothing}
-use Rattle.custodian.proofs.Calls.{done, denied}
+use Rattle.custodian.proofs.Calls.{denied}
 
 -- what a writer's result stands for
 told_wrote : (k : Kind) (h : Hash) (r : Result ℕ Refusal) (table : Option Refusal) (said before after : List ℕ) → Answers r table (λ n. (n ≡ length said) × (after ≡ written said before))

@@ -1,5 +1,5 @@
 -- The tables of refusals, from what the code found.
-use Rattle.std.proofs.Common.{◌≡◌, ℕ, ◌+◌, ◌-◌, ◌^◌, ◌<◌, ◌≤◌, Bool, true, false, cond, not, ◌&&◌, ◌||◌, eqb, ltb, leb, ◌⊎◌, List, [], ◌∷◌, ◌++◌, map, length, is_some, IsErrAnd, IfOk, Some, None, Ok, Err, Option, Result, sym, refl, ap, ◌∙◌, subst, inl, inr, arith}
+use Rattle.std.proofs.Common.{◌≡◌, ℕ, ◌+◌, ◌^◌, ◌<◌, ◌≤◌, Bool, true, false, cond, not, ◌&&◌, ◌||◌, eqb, leb, List, [], ◌∷◌, ◌++◌, length, is_some, IsErrAnd, IfOk, Some, None, Ok, Err, Option, Result, sym, refl, ap, ◌∙◌, inl, inr, arith}
 use lib.ListN.{length-map}
 use Rattle.std.specs.Option.{option_map}
 use Rattle.std.proofs.lemmas.Bool.{both_ways, lt-leb, cases_lt}
@@ -10,14 +10,14 @@ use Rattle.amount.specs.Kinds.{Kind, Laws, join_refusal}
 use Rattle.node.specs.Texts.{Line}
 use Rattle.tree.specs.Trees.{balances_total}
 use Rattle.digest.specs.Hashes.{Hash}
-use Rattle.store.specs.Meaning.{Meaning, in_span}
+use Rattle.store.specs.Meaning.{Meaning}
 use Rattle.store.specs.Counts.{held}
 use Rattle.client.specs.Suits.{suits}
 use Rattle.roll.specs.declared.types.Stand.{Stand}
-use Rattle.roll.specs.Rolls.{under_number, without_number}
+use Rattle.roll.specs.Rolls.{under_number}
 use Rattle.roll.specs.Stands.{number_of}
-use Rattle.roll.proofs.Rolls.{under_map, without_map}
-use Rattle.closing.specs.Closings.{Closing, State, stands, without, line, enter_refusal}
+use Rattle.roll.proofs.Rolls.{under_map}
+use Rattle.closing.specs.Closings.{Closing, State, stands, line, enter_refusal}
 use Rattle.closing.proofs.Fitting.{nodes_suit_now, leaves_suit_now}
 use Rattle.custodian.specs.Keeping.{brief, Keeps}
 

@@ -1,5 +1,5 @@
 -- A text of no more than 65,536 bytes is not refused.
-use Rattle.std.proofs.Common.{◌≡◌, ℕ, ◌≤◌, cond, ltb, List, length, Some, None, sym, ap, ◌∙◌, arith, ltb→lt}
+use Rattle.std.proofs.Common.{◌≡◌, ℕ, ◌≤◌, cond, ltb, List, length, Some, None, ap, arith, ltb→lt}
 use Rattle.refusal.specs.declared.cases.Refusal.{Refusal}
 use Rattle.refusal.specs.declared.cases.Refusal.TheVariants.{TextTooLong}
 use Rattle.octets.proofs.Passes.{false_T}

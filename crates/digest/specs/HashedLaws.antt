@@ -1,10 +1,9 @@
 -- The digests give 32 bytes.
-use Rattle.std.specs.Prelude.{◌≡◌, ℕ, zero, suc, ◌+◌, ◌-◌, ◌*◌, ◌/◌, ◌%◌, ◌<◌, ◌≤◌, List, [], ◌∷◌, ◌++◌, length, replicate, slice_index, refl}
-use Rattle.std.proofs.Common.{sym, ap, ◌∙◌, arith}
-use Rattle.octets.specs.BigEndian.{be}
+use Rattle.std.specs.Prelude.{◌≡◌, ℕ, zero, suc, ◌*◌, ◌/◌, ◌%◌, ◌<◌, List, [], ◌∷◌, ◌++◌, length, replicate, slice_index, refl}
+use Rattle.std.proofs.Common.{ap, ◌∙◌, arith}
 use Rattle.sha256.specs.Sha256.{bytes, chaining, compress, added, sha256, padded}
 use Rattle.constants.specs.Tables.{initial_hash}
-use Rattle.digest.specs.Hashes.{Hash, HashLaws}
+use Rattle.digest.specs.Hashes.{HashLaws}
 use Rattle.digest.specs.declared.kinds.AnyDigest.{AnyDigest}
 use Rattle.digest.specs.declared.kinds.AnyDigest.TheVariants.{Rehearsal, Sha256}
 use Rattle.digest.specs.Digests.{sum, rehearsed, rehearsal, fips, any}

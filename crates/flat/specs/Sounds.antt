@@ -1,5 +1,5 @@
 -- Every flat store's meaning is sound.
-use Rattle.std.specs.Prelude.{◌≡◌, ℕ, ◌+◌, ◌-◌, ◌*◌, vec_items}
+use Rattle.std.specs.Prelude.{◌≡◌, ◌+◌, ◌-◌, ◌*◌, vec_items}
 use Rattle.std.proofs.Common.{ap, zero-mul, arith}
 use Rattle.store.specs.Meaning.{Sound}
 use Rattle.flat_theory.proofs.Finds.{only}

@@ -1,5 +1,5 @@
 -- From one node to the next, and from one level to the next.
-use Rattle.std.proofs.Common.{◌≡◌, ℕ, zero, suc, ◌+◌, ◌-◌, ◌*◌, ◌^◌, ◌<◌, ◌≤◌, Bool, true, cond, T, ◌⊎◌, List, [], length, get_or, is_some, Some, None, Option, sym, refl, ap, ◌∙◌, subst, inl, inr, arith, pow_mono}
+use Rattle.std.proofs.Common.{◌≡◌, ℕ, zero, suc, ◌+◌, ◌-◌, ◌*◌, ◌^◌, ◌<◌, ◌≤◌, true, cond, T, List, [], length, get_or, is_some, Some, None, Option, sym, refl, ap, ◌∙◌, subst, inl, inr, arith, pow_mono}
 use Rattle.std.specs.List.{slice_get}
 use Rattle.std.proofs.lemmas.Option.{slice_get-get_or, slice_get_past}
 use Rattle.std.proofs.lemmas.Bool.{cases_eq}
@@ -10,7 +10,7 @@ use Rattle.tree.specs.Trees.{place, leaf_at, node_at}
 use Rattle.tree.proofs.Totals.{root_total}
 use Rattle.verify.proofs.Passing.{below, node_digest}
 use Rattle.store.specs.Meaning.{Meaning, inside}
-use Rattle.store.specs.Calls.{SameLimits, put_refusal, Put}
+use Rattle.store.specs.Calls.{put_refusal, Put}
 use Rattle.store.proofs.Refusals.{put_open}
 use Rattle.store.proofs.Rooms.{put_room}
 use Rattle.client.specs.Suits.{suits}
@@ -18,7 +18,6 @@ use Rattle.client.specs.Fetch.{fetched}
 use Rattle.client.proofs.Fills.{limits_join}
 use Rattle.client.proofs.Fetches.{fetched_open}
 use Rattle.closing.specs.Closings.{Closing}
-use Rattle.closing.specs.Holdings.{HoldsLeaves, HoldsTree}
 use Rattle.closing.proofs.Goods.{two_powers}
 use Rattle.closing.proofs.Counting.{same_limits, suits_same, suits_width, suits_inside}
 use Rattle.closing.proofs.Fitting.{place_inside}

@@ -1,5 +1,5 @@
 -- The tree of a closing in a node store, on its way from the leaves to the root.
-use Rattle.std.specs.Prelude.{◌≡◌, ℕ, ◌+◌, ◌-◌, ◌^◌, ◌<◌, ◌≤◌, true, T, ◌⊎◌, List, length, Some, None, ◌≢◌}
+use Rattle.std.specs.Prelude.{◌≡◌, ℕ, ◌+◌, ◌-◌, ◌^◌, ◌<◌, ◌≤◌, true, T, length, Some, None, ◌≢◌}
 use Rattle.amount.specs.Kinds.{Kind}
 use Rattle.digest.specs.Hashes.{Hash}
 use Rattle.node.specs.Texts.{Node, node_bytes}

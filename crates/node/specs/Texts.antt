@@ -1,5 +1,5 @@
 -- The texts that are hashed, and the nodes that they make.
-use Rattle.std.specs.Prelude.{ℕ, ◌+◌, List, [], ◌∷◌, ◌++◌, take, drop, Option}
+use Rattle.std.specs.Prelude.{ℕ, List, ◌∷◌, ◌++◌, take, drop, Option}
 use Rattle.std.specs.Option.{option_map}
 use Rattle.octets.specs.BigEndian.{be}
 use Rattle.amount.specs.Kinds.{Kind}

@@ -1,5 +1,5 @@
 -- Numbers and their bytes determine each other.
-use Rattle.std.proofs.Common.{◌≡◌, ℕ, zero, suc, ◌+◌, ◌-◌, ◌*◌, ◌/◌, ◌%◌, ◌^◌, ◌<◌, ◌≤◌, List, [], ◌∷◌, ◌++◌, length, get_or, sym, refl, ap, ◌∙◌, mod-eq_of_lt, mul_assoc, div-add-mod', div-one, arith}
+use Rattle.std.proofs.Common.{◌≡◌, ℕ, zero, suc, ◌+◌, ◌*◌, ◌/◌, ◌%◌, ◌^◌, ◌<◌, List, [], ◌∷◌, length, get_or, sym, refl, ap, ◌∙◌, mod-eq_of_lt, mul_assoc, div-add-mod', div-one, arith}
 use native.Mathlib.Nat.{pow-succ', mod-one, mul-add-div_right, one-le-pow}
 use lib.Arith.{mod-mul, digits_lt, digits_div}
 use Rattle.octets.specs.BigEndian.{be, value}

@@ -1,7 +1,7 @@
 -- What tests on lists say.
-use Rattle.std.proofs.Common.{◌≡◌, ℕ, zero, suc, ◌<◌, Bool, true, false, ◌&&◌, T, eqb, List, [], ◌∷◌, length, get_or, Decides, sym, refl, ap, ◌∙◌, subst, arith, eqb→eq}
+use Rattle.std.proofs.Common.{◌≡◌, ℕ, Bool, true, false, ◌&&◌, T, eqb, List, [], ◌∷◌, Decides, sym, refl, subst, arith, eqb→eq}
 use lib.Dec.{eqb_refl}
-use Rattle.octets.specs.Tests.{same, every}
+use Rattle.octets.specs.Tests.{same}
 
 pub both_in : (a b : Bool) → T a → T b → T (a && b)
 both_in true b p q = q

@@ -1,5 +1,5 @@
 -- The whole promise.
-use Rattle.std.proofs.Common.{◌≡◌, ℕ, ◌+◌, ◌^◌, Bool, true, false, ◌⊎◌, List, [], ◌∷◌, ◌++◌, take, is_some, Some, None, Option, unwrap_or, sym, refl, ap, ◌∙◌, subst, inl, inr, arith}
+use Rattle.std.proofs.Common.{◌≡◌, ℕ, List, is_some, Some, None, sym, ap, ◌∙◌, subst}
 use Rattle.std.specs.List.{slice_get}
 use Rattle.amount.specs.Kinds.{Kind, Laws, total}
 use Rattle.digest.specs.Hashes.{Hash, HashLaws}
@@ -11,16 +11,15 @@ use Rattle.file.specs.Ledgers.{Ledger, ledger_sheet, line_file}
 use Rattle.verify.specs.Paths.{file_of}
 use Rattle.verify.proofs.Passing.{said, node_digest}
 use Rattle.store.specs.Meaning.{Meaning}
-use Rattle.closing.specs.Closings.{Closing, State, new, stands, standing_of, line_of, Call, after, answer, sheet_said, file_said}
+use Rattle.closing.specs.Closings.{Closing, State, new, stands, standing_of, after, sheet_said, file_said}
 use Rattle.closing.specs.Holdings.{Good}
-use Rattle.closing.specs.Standings.{Passes}
 use Rattle.closing.proofs.Stands.{same_some}
 use Rattle.closing.proofs.Accepted.{standing_is}
 use Rattle.closing.proofs.Goods.{good_new, good_after}
 use Rattle.closing.proofs.Records.{balances_fit, leaf_inside, root_writable}
-use Rattle.closing.proofs.Standings.{sheet_written, Issued, file_issued, same_closing, pass}
+use Rattle.closing.proofs.Standings.{sheet_written, file_issued, same_closing, pass}
 use Rattle.audit.specs.Audits as audits
-use Rattle.audit.specs.Promise.{Among, WasPresented, OnlyLines, Agrees}
+use Rattle.audit.specs.Promise.{Among, OnlyLines, Agrees}
 use Rattle.audit.proofs.Holds.{audit_promise}
 use Rattle.audit.proofs.Honest.{honest_audit}
 use Rattle.promise.specs.Promise.{SheetWritten, FileIssued, OnlyIssued, EveryLine, StandingHonest, HonestCustodians, Promise}

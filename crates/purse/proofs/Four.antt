@@ -1,12 +1,12 @@
 -- Four numbers in thirty-two bytes.
-use Rattle.std.proofs.Common.{◌≡◌, ℕ, zero, suc, ◌+◌, ◌-◌, ◌*◌, ◌^◌, ◌<◌, ◌≤◌, Bool, true, false, not, T, List, [], ◌∷◌, ◌++◌, length, get_or, take, drop, is_some, Some, None, Option, sym, refl, ap, ◌∙◌, subst, append_assoc, arith, length-append, length-drop, take-append-drop}
+use Rattle.std.proofs.Common.{◌≡◌, ℕ, Bool, true, false, not, List, [], ◌∷◌, ◌++◌, length, take, drop, is_some, Some, None, Option, sym, refl, ap, ◌∙◌, append_assoc, arith, length-append, length-drop, take-append-drop}
 use Rattle.std.proofs.lemmas.List.{take_at, drop_at, drop-drop}
 use borrow.Rule.Slice.PartMut.{put_mid, post_of}
 use Rattle.octets.specs.BigEndian.{be}
 use Rattle.refusal.specs.declared.cases.Refusal.{Refusal}
 use Rattle.refusal.specs.declared.cases.Refusal.TheVariants.{BadAmount}
 use Rattle.refusal.specs.Tables.{◌⇒◌, first}
-use Rattle.amount.specs.Rows.{bytes, single, purse, four}
+use Rattle.amount.specs.Rows.{bytes, single, purse}
 use Rattle.amount.proofs.RowLaws.{All, Small, single_laws, purse_laws, writable_in, writable_out}
 use Rattle.amount.proofs.ReadLaws.{reads_none, reads_one}
 

@@ -1,5 +1,5 @@
 -- The exit of a `?`: a callee's refusal handed on.
-use Rattle.std.proofs.Common.{◌≡◌, IsErrAnd, Some, None, Ok, Err, Option, Result, sym, ap, ◌∙◌}
+use Rattle.std.proofs.Common.{◌≡◌, IsErrAnd, Some, Ok, Err, Option, Result, sym, ap, ◌∙◌}
 use Rattle.refusal.specs.declared.cases.Refusal.{Refusal}
 use Rattle.refusal.specs.Tables.{Answers}
 

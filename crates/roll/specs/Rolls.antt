@@ -1,5 +1,5 @@
 -- Lists whose items are found by a number.
-use Rattle.std.specs.Prelude.{ℕ, Bool, cond, List, [], ◌∷◌, Some, None, Option, ◌==◌}
+use Rattle.std.specs.Prelude.{ℕ, cond, List, [], ◌∷◌, Some, None, Option, ◌==◌}
 
 module _ {X : Type 0} (number : X → ℕ) where
   -- the first item of a number

@@ -1,9 +1,9 @@
 -- The bytes of a hash, and the end of a text.
-use Rattle.std.proofs.Common.{◌≡◌, ℕ, zero, suc, ◌+◌, ◌-◌, ◌*◌, ◌/◌, ◌%◌, ◌^◌, ◌<◌, ◌≤◌, List, [], ◌∷◌, ◌++◌, length, get_or, take, drop, set, replicate, sym, refl, ap, ◌∙◌, subst, append_assoc, add-one, arith, length-append, length-drop, take_all}
+use Rattle.std.proofs.Common.{◌≡◌, ℕ, zero, suc, ◌+◌, ◌-◌, ◌*◌, ◌/◌, ◌%◌, ◌<◌, ◌≤◌, List, [], ◌∷◌, ◌++◌, length, get_or, take, drop, set, replicate, sym, refl, ap, ◌∙◌, append_assoc, add-one, arith, length-append, length-drop, take_all}
 use lib.ListN.{length-replicate}
 use lib.Seq.{set_at, take-append-add}
 use borrow.Rule.Slice.PartMut.{put_mid, post_of}
-use Rattle.std.proofs.lemmas.List.{take_more, take-replicate, drop-replicate, take-append-le, drop-append-le, drop-drop, take_at, drop_at}
+use Rattle.std.proofs.lemmas.List.{take_more, take-replicate, drop-replicate, take-append-le, drop-append-le, drop-drop}
 use Rattle.std.proofs.lemmas.Slice.{take-put_mid}
 use Rattle.octets.specs.BigEndian.{be}
 use Rattle.sha256.specs.Sha256.{bytes, ending, padded, chaining, compress, sha256}

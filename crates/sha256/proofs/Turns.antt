@@ -1,7 +1,7 @@
 -- One more turn of each loop.
-use Rattle.std.proofs.Common.{◌≡◌, ℕ, zero, suc, ◌+◌, ◌-◌, ◌*◌, ◌<◌, ◌≤◌, List, [], ◌∷◌, ◌++◌, length, get_or, take, drop, set, sym, refl, ap, ◌∙◌, subst, add-one, arith, get_or-take, take-suc-set}
+use Rattle.std.proofs.Common.{◌≡◌, ℕ, suc, ◌+◌, ◌-◌, ◌<◌, ◌≤◌, List, [], ◌∷◌, ◌++◌, length, get_or, take, set, sym, ap, ◌∙◌, subst, add-one, arith, get_or-take, take-suc-set}
 use Rattle.constants.specs.Tables.{round_constants}
-use Rattle.sha256.specs.Sha256.{word_at, words, next, scheduled, schedule, round, rounds}
+use Rattle.sha256.specs.Sha256.{word_at, words, next, scheduled, round, rounds}
 
 pub words_more : (w s : List ℕ) (t v : ℕ) → t < length w → take t w ≡ words t s → v ≡ word_at s t → take (t + 1) (set w t v) ≡ words (t + 1) s
 unfolding words

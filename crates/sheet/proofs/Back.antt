@@ -1,17 +1,15 @@
 -- A sheet that is written reads back to itself.
-use Rattle.std.proofs.Common.{◌≡◌, ℕ, ◌+◌, ◌^◌, ◌<◌, ◌≤◌, Bool, true, false, cond, not, ◌&&◌, T, eqb, List, [], ◌∷◌, ◌++◌, length, get_or, take, drop, is_some, Some, None, Option, sym, refl, ap, ◌∙◌, subst, arith, length-append}
+use Rattle.std.proofs.Common.{◌≡◌, ℕ, ◌+◌, true, false, not, ◌&&◌, T, eqb, length, drop, is_some, Some, None, ap, ◌∙◌, arith, length-append}
 use lib.Dec.{eqb_refl}
 use Rattle.std.specs.Option.{option_map}
-use Rattle.std.proofs.lemmas.List.{take_at, drop_at}
+use Rattle.std.proofs.lemmas.List.{drop_at}
 use Rattle.octets.specs.BigEndian.{be, value}
 use Rattle.octets.proofs.Numbers.{value_be_small}
 use Rattle.octets.proofs.Passes.{true_T, eqb_in, both_in}
-use Rattle.refusal.specs.declared.cases.Refusal.TheVariants.{BadAmount}
-use Rattle.refusal.specs.Tables.{◌⇒◌, first}
 use Rattle.amount.specs.Kinds.{Kind, Laws}
 use Rattle.digest.specs.Hashes.{Hash}
 use Rattle.node.proofs.NodeBytes.{node_read}
-use Rattle.node.specs.Texts.{Node, node_bytes, read_node}
+use Rattle.node.specs.Texts.{Node}
 use Rattle.tree.specs.Trees.{bad_limits}
 use Rattle.tree.proofs.Subtrees.{known_closing}
 use Rattle.sheet.specs.Layout.{Sheet, sheet_bytes, sheet_refusal, read_sheet}

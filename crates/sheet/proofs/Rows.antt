@@ -1,5 +1,5 @@
 -- The table of a sheet, from what its reader found.
-use Rattle.std.proofs.Common.{◌≡◌, ℕ, zero, suc, ◌+◌, ◌-◌, ◌<◌, ◌≤◌, Bool, true, false, cond, not, ◌&&◌, T, eqb, List, [], ◌∷◌, ◌++◌, length, get_or, take, drop, is_some, Some, None, Option, sym, refl, ap, ◌∙◌, subst, arith, eqb→eq, length-drop, take-append-drop, get_or-drop, take_all}
+use Rattle.std.proofs.Common.{◌≡◌, ℕ, zero, suc, ◌+◌, ◌-◌, ◌<◌, ◌≤◌, Bool, true, false, not, ◌&&◌, T, eqb, List, [], ◌∷◌, ◌++◌, length, get_or, take, drop, is_some, Some, None, Option, sym, refl, ap, ◌∙◌, subst, arith, eqb→eq, length-drop, take-append-drop, get_or-drop, take_all}
 use Rattle.std.specs.Option.{option_map}
 use Rattle.std.proofs.lemmas.List.{drop-drop}
 use Rattle.octets.specs.BigEndian.{be, value}
@@ -12,7 +12,7 @@ use Rattle.amount.specs.Kinds.{Kind, Laws}
 use Rattle.digest.specs.Hashes.{Hash}
 use Rattle.node.specs.Texts.{Node, node_bytes, read_node}
 use Rattle.tree.specs.Trees.{bad_limits}
-use Rattle.sheet.specs.Layout.{Sheet, sheet_bytes, sheet_refusal, read_sheet}
+use Rattle.sheet.specs.Layout.{sheet_bytes, sheet_refusal, read_sheet}
 
 -- what stands behind the third byte, and behind the seventh
 pub behind_3 : (s : List ℕ) → take (length s - 3) (drop 3 s) ≡ drop 3 s

@@ -1,5 +1,5 @@
 -- The sheet of a closing: what the notice prints, byte by byte.
-use Rattle.std.specs.Prelude.{ℕ, ◌+◌, Bool, not, ◌&&◌, List, [], ◌∷◌, ◌++◌, length, take, drop, is_some, Option, ◌==◌, slice_index}
+use Rattle.std.specs.Prelude.{ℕ, ◌+◌, not, ◌&&◌, List, [], ◌∷◌, ◌++◌, length, take, drop, is_some, Option, ◌==◌, slice_index}
 use Rattle.std.specs.Option.{option_map}
 use Rattle.octets.specs.BigEndian.{be, value}
 use Rattle.refusal.specs.declared.cases.Refusal.{Refusal}

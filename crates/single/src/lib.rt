@@ -5,8 +5,8 @@
 
 ghost use Rattle.std.specs.Prelude.{[], ◌∷◌, ◌^◌, ◌<◌, refl};
 ghost use Rattle.amount.specs.Rows.{single as single_kind};
-ghost use Rattle.amount.proofs.RowLaws.{single_laws, writable_out};
-ghost use Rattle.std.proofs.Common.{arith, rules};
+ghost use Rattle.amount.proofs.RowLaws.{single_laws, writable_in, writable_out};
+ghost use Rattle.std.proofs.Common.{arith};
 
 use amount::{Amount, MOST};
 use refusal::cases::Refusal;
@@ -25,7 +25,7 @@ impl Amount for Single {
 
     ghost lawful = { single_laws };
 
-    ghost sound = { first_of (Prim.search rules, Prim.grind (arith, Self.row.coded.inj)) };
+    ghost sound = { λ a. writable_in 1 (a.cents ∷ []) (refl, (a.bound, tt)) };
 
     ghost whole = { elim [
       | [] ↦ λ h. absurd (omega (arith, (writable_out 1 [] h).0))

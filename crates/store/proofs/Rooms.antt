@@ -1,12 +1,12 @@
 -- Room and held: what each call makes of them, and where no put is refused.
-use Rattle.std.proofs.Common.{◌≡◌, ℕ, zero, suc, ◌+◌, ◌-◌, ◌*◌, ◌<◌, ◌≤◌, Bool, true, false, cond, not, ◌≢◌, ◌⊎◌, List, is_some, Some, None, Option, sym, refl, ap, ◌∙◌, subst, inl, inr, arith}
+use Rattle.std.proofs.Common.{◌≡◌, ℕ, ◌+◌, ◌-◌, ◌*◌, ◌<◌, ◌≤◌, Bool, true, false, not, ◌≢◌, List, is_some, Some, None, Option, sym, refl, ap, ◌∙◌, inl, inr, arith}
 use Rattle.std.proofs.lemmas.Bool.{cases_eq, cases_Bool, cond-true, cond-false}
 use Rattle.store.specs.Meaning.{Meaning, in_span, inside}
 use Rattle.store.specs.Counts.{tally, held, held_all, missing, sum_to}
 use Rattle.store.specs.Calls.{Put, Cleared, SameLimits, put_refusal}
 use Rattle.store.proofs.Inside.{key_out, span_out}
 use Rattle.store.proofs.Refusals.{put_open}
-use Rattle.store.proofs.Tallies.{tally_le, tally_same, tally_miss, tally_some, tally_put, tally_none, tally_not, tally_mono, sum_to_change, sum_to_lt, le_sum_to, sum_to_none}
+use Rattle.store.proofs.Tallies.{tally_le, tally_same, tally_miss, tally_some, tally_put, tally_none, tally_not, sum_to_change, sum_to_lt, le_sum_to, sum_to_none}
 
 pub is_none : (o : Option (List ℕ)) → is_some o ≡ false → o ≡ None
 is_none None e = refl

@@ -2,7 +2,7 @@
 use Rattle.std.specs.Prelude.{◌≡◌, ℕ, ◌+◌, Bool, true, false, cond, not, ◌&&◌, List, [], ◌∷◌, is_some, Some, None, Ok, Err, Option, Result, ◌==◌, ◌≢◌}
 use Rattle.refusal.specs.declared.cases.Refusal.{Refusal}
 use Rattle.refusal.specs.declared.cases.Refusal.TheVariants.{KeyOutside, WrongWidth, Full}
-use Rattle.refusal.specs.Tables.{Row, ◌⇒◌, first}
+use Rattle.refusal.specs.Tables.{◌⇒◌, first}
 use Rattle.store.specs.Meaning.{Meaning, in_span, inside}
 use Rattle.store.specs.Counts.{held}
 

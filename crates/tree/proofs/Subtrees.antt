@@ -1,5 +1,5 @@
 -- The nodes of a tree: how long their amounts are, and that a part can be written where the whole can.
-use Rattle.std.proofs.Common.{◌≡◌, ℕ, zero, suc, ◌+◌, ◌-◌, ◌*◌, ◌^◌, ◌<◌, ◌≤◌, Bool, true, false, cond, not, ◌||◌, T, ltb, leb, List, [], ◌∷◌, map, length, get_or, Some, None, Option, Result, sym, refl, ap, ◌∙◌, subst, le_of_suc-le-suc, not-suc-le-zero, mul-le-mul_right, mul_assoc, mul-le-mul_left, arith, ltb→lt, lt→ltb, nltb→le, pow_mono, pow-add}
+use Rattle.std.proofs.Common.{◌≡◌, ℕ, zero, suc, ◌+◌, ◌-◌, ◌*◌, ◌^◌, ◌<◌, ◌≤◌, Bool, true, false, not, ◌||◌, T, ltb, leb, List, [], ◌∷◌, map, length, get_or, Some, None, Option, Result, sym, refl, ap, ◌∙◌, subst, le_of_suc-le-suc, not-suc-le-zero, mul-le-mul_right, mul_assoc, mul-le-mul_left, arith, ltb→lt, lt→ltb, nltb→le, pow_mono, pow-add}
 use native.Mathlib.Nat.{one-le-pow, pow-succ'}
 use lib.Dec.{nleb→lt, not_T}
 use Rattle.octets.proofs.Passes.{true_T, false_T}

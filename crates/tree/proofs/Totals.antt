@@ -1,5 +1,5 @@
 -- The amount of a node is that of all lines below it joined, so the root's is that of the whole ledger.
-use Rattle.std.proofs.Common.{◌≡◌, ℕ, zero, suc, ◌+◌, ◌-◌, ◌*◌, ◌^◌, ◌<◌, ◌≤◌, Bool, true, false, ◌||◌, T, ltb, leb, List, [], ◌∷◌, ◌++◌, length, take, drop, Some, None, Ok, Err, Option, Result, sym, refl, ap, ◌∙◌, subst, mul_assoc, add-mul, arith, nltb→le, take_all, take-add}
+use Rattle.std.proofs.Common.{◌≡◌, ℕ, zero, suc, ◌+◌, ◌-◌, ◌*◌, ◌^◌, ◌<◌, ◌≤◌, false, ◌||◌, T, ltb, leb, List, [], ◌∷◌, ◌++◌, length, take, drop, Some, Ok, Err, Option, Result, sym, refl, ap, ◌∙◌, subst, mul_assoc, add-mul, arith, nltb→le, take_all, take-add}
 use native.Mathlib.Nat.{pow-succ'}
 use lib.Dec.{nleb→lt, not_T}
 use Rattle.std.proofs.lemmas.List.{drop-drop}

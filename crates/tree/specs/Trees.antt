@@ -1,5 +1,5 @@
 -- The tree of a ledger: what stands at each of its places.
-use Rattle.std.specs.Prelude.{ℕ, zero, suc, ◌+◌, ◌-◌, ◌*◌, ◌^◌, Bool, not, ◌&&◌, ◌||◌, ltb, List, [], ◌∷◌, map, length, Some, None, Option, nat_le, nat_lt}
+use Rattle.std.specs.Prelude.{ℕ, zero, suc, ◌+◌, ◌-◌, ◌*◌, ◌^◌, Bool, not, ◌||◌, ltb, List, [], ◌∷◌, map, length, Some, None, Option, nat_le, nat_lt}
 use Rattle.std.specs.List.{slice_get}
 use Rattle.refusal.specs.declared.cases.Refusal.{Refusal}
 use Rattle.refusal.specs.declared.cases.Refusal.TheVariants.{BadLimits, LeavesTaken, LeafOutside, JoinUnwritable}

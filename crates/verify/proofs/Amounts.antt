@@ -1,5 +1,5 @@
 -- The amounts of a file, field by field.
-use Rattle.std.proofs.Common.{◌≡◌, ℕ, zero, suc, ◌+◌, ◌-◌, ◌*◌, ◌<◌, ◌≤◌, Bool, true, false, cond, ◌&&◌, eqb, leb, List, [], ◌∷◌, length, drop, is_some, Some, None, Option, sym, refl, ap, ◌∙◌, subst, add-zero, mul-le-mul_right, zero-add, add-one, arith, le→leb, length-drop, length-take}
+use Rattle.std.proofs.Common.{◌≡◌, ℕ, zero, suc, ◌+◌, ◌-◌, ◌*◌, ◌<◌, ◌≤◌, true, false, cond, ◌&&◌, eqb, leb, List, length, drop, is_some, Some, None, Option, sym, refl, ap, ◌∙◌, subst, add-zero, mul-le-mul_right, zero-add, add-one, arith, le→leb, length-drop, length-take}
 use Rattle.file.proofs.Ends.{within}
 use Rattle.refusal.specs.declared.cases.Refusal.{Refusal}
 use Rattle.refusal.specs.declared.cases.Refusal.TheVariants.{BadAmount}

@@ -1,14 +1,12 @@
 -- A file that is written reads back to what it says.
-use Rattle.std.proofs.Common.{◌≡◌, ℕ, zero, suc, ◌+◌, ◌-◌, ◌*◌, ◌^◌, ◌<◌, ◌≤◌, Bool, true, false, cond, T, List, [], ◌∷◌, ◌++◌, length, take, drop, is_some, Some, None, Option, unwrap_or, sym, refl, ap, ◌∙◌, subst, suc-mul, zero-mul, arith, length-append}
+use Rattle.std.proofs.Common.{◌≡◌, ℕ, suc, ◌+◌, ◌*◌, ◌^◌, ◌<◌, cond, T, List, [], ◌∷◌, ◌++◌, length, take, drop, is_some, Some, None, Option, unwrap_or, sym, refl, ap, ◌∙◌, suc-mul, zero-mul, arith, length-append}
 use Rattle.std.proofs.lemmas.List.{take_at, drop_at, drop-drop}
-use Rattle.refusal.specs.declared.cases.Refusal.{Refusal}
 use Rattle.refusal.specs.declared.cases.Refusal.TheVariants.{BadAmount}
 use Rattle.octets.specs.BigEndian.{be, value}
 use Rattle.octets.proofs.Numbers.{be_length, value_be_small}
 use Rattle.amount.specs.Kinds.{Kind, Laws}
 use Rattle.digest.specs.Hashes.{Hash}
-use Rattle.node.specs.Texts.{Line, Node, node_bytes}
-use Rattle.sheet.specs.Layout.{head}
+use Rattle.node.specs.Texts.{Node, node_bytes}
 use Rattle.file.specs.Layout.{File, file_bytes, file_length, steps_bytes}
 use Rattle.file.specs.Fields.{offset_at, step_index, field_bytes}
 use Rattle.verify.specs.Paths.{amount_of, step_of, steps_of, file_of}

@@ -1,10 +1,10 @@
 -- The file of every line of a ledger passes under the ledger's sheet.
-use Rattle.std.proofs.Common.{◌≡◌, ℕ, zero, suc, ◌+◌, ◌-◌, ◌*◌, ◌/◌, ◌%◌, ◌^◌, ◌<◌, ◌≤◌, Bool, true, false, cond, not, T, eqb, ltb, leb, List, [], ◌∷◌, ◌++◌, length, get_or, take, drop, IsOkAnd, Some, None, Ok, Err, Option, Result, sym, refl, ap, ◌∙◌, subst, add-zero, mod-lt, div-lt_iff_lt-mul, pow-suc, div-add-mod', div-one, arith, eqb→eq, ltb→lt, lt→ltb, leb→le, pow_mono, pow-add}
-use native.Mathlib.Nat.{pow-succ', div-div-eq-div-mul, one-le-pow}
+use Rattle.std.proofs.Common.{◌≡◌, ℕ, zero, suc, ◌+◌, ◌-◌, ◌*◌, ◌/◌, ◌%◌, ◌^◌, ◌<◌, ◌≤◌, Bool, true, false, cond, not, T, eqb, ltb, leb, List, [], ◌∷◌, length, get_or, take, IsOkAnd, Some, None, Ok, Err, Option, Result, sym, refl, ap, ◌∙◌, subst, add-zero, mod-lt, div-lt_iff_lt-mul, pow-suc, div-add-mod', div-one, arith, eqb→eq, ltb→lt, leb→le, pow_mono, pow-add}
+use native.Mathlib.Nat.{div-div-eq-div-mul, one-le-pow}
 use Rattle.std.specs.List.{slice_get}
 use Rattle.refusal.specs.declared.cases.Refusal.{Refusal}
 use Rattle.refusal.specs.declared.cases.Refusal.TheVariants.{BadLimits, FileLength, OtherSheet, LeafOutside, JoinUnwritable, RootDiffers}
-use Rattle.refusal.specs.Tables.{◌⇒◌, first, Answers}
+use Rattle.refusal.specs.Tables.{Answers}
 use Rattle.octets.specs.Tests.{same}
 use Rattle.octets.proofs.Passes.{true_T, T_true, false_T, same_refl, eqb_in}
 use Rattle.amount.specs.Kinds.{Kind, Laws}
@@ -13,13 +13,13 @@ use Rattle.node.specs.Texts.{Line, Node, node_bytes, leaf_text, padding_text, in
 use Rattle.tree.specs.Trees.{bad_limits, leaf_at, node_at}
 use Rattle.tree.proofs.Subtrees.{left_below, right_below, shallow}
 use Rattle.tree.proofs.Totals.{root_total}
-use Rattle.sheet.specs.Layout.{Sheet, head, sheet_bytes, sheet_refusal, read_sheet}
+use Rattle.sheet.specs.Layout.{Sheet, head, sheet_bytes, read_sheet}
 use Rattle.sheet.proofs.Back.{reads_back}
 use Rattle.file.specs.Layout.{File, file_bytes, file_length}
 use Rattle.file.specs.Fields.{offset_at, step_index}
 use Rattle.file.specs.Ledgers.{Ledger, beside, ledger_sheet, steps_beside, line_file}
 use Rattle.verify.specs.Paths.{file_of, step_at, path_node}
-use Rattle.verify.specs.Checks.{or_else, first_from, join_refusal_at, joins_refusal, shape_refusal, top_refusal, amounts_refusal, file_refusal, under_refusal, under, check_refusal, leaf_place}
+use Rattle.verify.specs.Checks.{or_else, first_from, join_refusal_at, joins_refusal, shape_refusal, top_refusal, amounts_refusal, under_refusal, under, check_refusal, leaf_place}
 use Rattle.verify.proofs.Back.{Fits, SoundNode, SoundNodes, file_back, amounts_pass, file_long}
 
 -- both nodes below node m / 2

@@ -1,5 +1,5 @@
 -- The first rows of a file's table, from what the code found; and the tests of bytes.
-use Rattle.std.proofs.Common.{◌≡◌, ℕ, ◌+◌, ◌-◌, ◌^◌, ◌<◌, ◌≤◌, Bool, true, false, cond, not, T, eqb, leb, List, [], ◌∷◌, ◌++◌, length, take, drop, Some, None, sym, refl, ap, ◌∙◌, subst, arith, le→leb, leb→le, length-drop, take_all}
+use Rattle.std.proofs.Common.{◌≡◌, ℕ, ◌-◌, ◌^◌, ◌<◌, ◌≤◌, true, false, not, eqb, leb, List, length, take, drop, Some, None, sym, ap, arith, le→leb, leb→le, length-drop, take_all}
 use Rattle.std.proofs.lemmas.List.{take_at}
 use Rattle.octets.specs.BigEndian.{value}
 use Rattle.octets.specs.Tests.{same}
@@ -10,7 +10,6 @@ use Rattle.amount.specs.Kinds.{Kind}
 use Rattle.digest.specs.Hashes.{Hash}
 use Rattle.sheet.specs.Layout.{Sheet, head}
 use Rattle.file.specs.Layout.{file_length}
-use Rattle.verify.specs.Paths.{file_of}
 use Rattle.verify.specs.Checks.{shape_refusal}
 
 -- the bytes behind the seventh

@@ -1,5 +1,5 @@
 -- A file that passes has its balance under the total.
-use Rattle.std.proofs.Common.{◌≡◌, ℕ, zero, suc, ◌+◌, ◌-◌, ◌<◌, ◌≤◌, Bool, true, false, cond, not, T, eqb, ltb, List, [], ◌∷◌, ◌++◌, length, get_or, take, drop, is_some, Some, None, Ok, Err, Option, Result, unwrap_or, sym, refl, ap, ◌∙◌, subst, zero-add, arith, eqb→eq, length-drop, length-take}
+use Rattle.std.proofs.Common.{◌≡◌, ℕ, zero, suc, ◌+◌, ◌<◌, ◌≤◌, Bool, true, false, cond, not, T, eqb, ltb, List, [], ◌∷◌, length, get_or, take, drop, is_some, Some, None, Option, unwrap_or, sym, refl, ap, ◌∙◌, subst, zero-add, arith, eqb→eq, length-drop, length-take}
 use Rattle.std.specs.Option.{option_map}
 use Rattle.octets.specs.BigEndian.{value}
 use Rattle.std.proofs.lemmas.List.{drop_at}
@@ -7,7 +7,7 @@ use Rattle.octets.specs.Tests.{same}
 use Rattle.octets.proofs.Passes.{T_true, same_out}
 use Rattle.refusal.specs.declared.cases.Refusal.{Refusal}
 use Rattle.refusal.specs.declared.cases.Refusal.TheVariants.{BadAmount, BadLimits, JoinUnwritable, RootDiffers, SheetLength}
-use Rattle.refusal.specs.Tables.{◌⇒◌, first, Answers}
+use Rattle.refusal.specs.Tables.{◌⇒◌, first}
 use Rattle.amount.specs.Kinds.{Kind, Laws}
 use Rattle.amount.proofs.Joins.{under_left, under_right}
 use Rattle.digest.specs.Hashes.{Hash, HashLaws}
@@ -16,9 +16,9 @@ use Rattle.sheet.specs.Layout.{Sheet, sheet_refusal, read_sheet}
 use Rattle.file.specs.Layout.{File}
 use Rattle.file.specs.Fields.{offset_at, step_index, field_bytes}
 use Rattle.verify.specs.Paths.{amount_of, step_of, file_of, step_at, is_left, path_node}
-use Rattle.verify.specs.Checks.{or_else, field_refusal, first_from, shape_refusal, amounts_refusal, join_refusal_at, joins_refusal, top_refusal, file_refusal, under_refusal, under, check_refusal, leaf_place}
-use Rattle.verify.proofs.Amounts.{or_none, is_step, none_at}
-use Rattle.verify.proofs.Climbs.{steps_at, join_at}
+use Rattle.verify.specs.Checks.{or_else, field_refusal, shape_refusal, amounts_refusal, join_refusal_at, joins_refusal, top_refusal, file_refusal, under_refusal}
+use Rattle.verify.proofs.Amounts.{or_none, none_at}
+use Rattle.verify.proofs.Climbs.{steps_at}
 
 -- an amount that is there
 there : (k : Kind) → Laws k → (s : List ℕ) → is_some (k.read s) ≡ true → T (k.writable (amount_of k s))

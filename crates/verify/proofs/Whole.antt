@@ -1,5 +1,5 @@
 -- A file is the bytes of what it says.
-use Rattle.std.proofs.Common.{◌≡◌, ℕ, zero, suc, ◌+◌, ◌-◌, ◌*◌, ◌^◌, ◌<◌, ◌≤◌, Bool, true, false, cond, not, T, eqb, ltb, leb, List, [], ◌∷◌, ◌++◌, length, get_or, take, drop, is_some, Some, None, Ok, Err, Option, Result, unwrap_or, sym, refl, ap, ◌∙◌, subst, append_assoc, add-zero, suc-mul, zero-mul, arith, eqb→eq, length-drop, take-append-drop, take_all, take-add}
+use Rattle.std.proofs.Common.{◌≡◌, ℕ, zero, suc, ◌+◌, ◌*◌, ◌^◌, ◌<◌, true, cond, not, T, eqb, ltb, leb, List, [], ◌∷◌, ◌++◌, length, get_or, take, drop, is_some, Some, None, Ok, Err, Option, Result, unwrap_or, sym, refl, ap, ◌∙◌, subst, add-zero, suc-mul, zero-mul, arith, eqb→eq, length-drop, take-append-drop, take_all, take-add}
 use Rattle.std.proofs.lemmas.List.{drop-drop}
 use Rattle.refusal.specs.declared.cases.Refusal.{Refusal}
 use Rattle.octets.specs.BigEndian.{be, value}

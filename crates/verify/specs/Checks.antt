@@ -1,12 +1,12 @@
 -- The customer's check: when a file is refused under a sheet.
-use Rattle.std.specs.Prelude.{ℕ, zero, suc, ◌+◌, ◌^◌, Bool, true, false, cond, not, List, [], ◌∷◌, length, take, drop, is_some, Some, None, Option, ◌==◌, nat_le, nat_lt}
+use Rattle.std.specs.Prelude.{ℕ, zero, suc, ◌+◌, ◌^◌, cond, not, List, [], ◌∷◌, length, take, drop, is_some, Some, None, Option, ◌==◌, nat_le, nat_lt}
 use Rattle.octets.specs.Tests.{same}
 use Rattle.refusal.specs.declared.cases.Refusal.{Refusal}
 use Rattle.refusal.specs.declared.cases.Refusal.TheVariants.{BadLimits, FileLength, OtherSheet, LeafOutside, BadAmount, JoinUnwritable, RootDiffers}
 use Rattle.refusal.specs.Tables.{◌⇒◌, first}
 use Rattle.amount.specs.Kinds.{Kind}
 use Rattle.digest.specs.Hashes.{Hash}
-use Rattle.node.specs.Texts.{Node, node_bytes}
+use Rattle.node.specs.Texts.{node_bytes}
 use Rattle.sheet.specs.Layout.{Sheet, head, sheet_refusal, read_sheet}
 use Rattle.file.specs.Layout.{File, file_length}
 use Rattle.file.specs.Fields.{offset_at, step_index, field_bytes}

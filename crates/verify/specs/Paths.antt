@@ -4,7 +4,7 @@ use Rattle.std.specs.Option.{unwrap_or}
 use Rattle.octets.specs.BigEndian.{value}
 use Rattle.amount.specs.Kinds.{Kind}
 use Rattle.digest.specs.Hashes.{Hash}
-use Rattle.node.specs.Texts.{Line, Node, leaf_text, inner_text, leaf_node, inner_node}
+use Rattle.node.specs.Texts.{Node, leaf_text, inner_text, leaf_node, inner_node}
 use Rattle.file.specs.Layout.{File}
 use Rattle.file.specs.Fields.{step_index, field_bytes}
 

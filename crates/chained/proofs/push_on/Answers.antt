@@ -1,6 +1,6 @@
-use Rattle.std.proofs.Common.{◌≡◌, ◌*◌, sym, refl, ap, ◌∙◌, subst}
+use Rattle.std.proofs.Common.{◌*◌, ap, ◌∙◌}
 use Rattle.memory.specs.Four.{be4, put4}
-use Rattle.chained_theory.specs.Layout.{push_on, filled, head_at, next_at, start_of}
+use Rattle.chained_theory.specs.Layout.{push_on, filled, head_at, next_at}
 use Rattle.chained.proofs.push_on.Goals as goal
 
 pub returns : goal.returns

@@ -1,7 +1,7 @@
-use Rattle.std.proofs.Common.{◌≡◌, ℕ, suc, ◌+◌, ◌-◌, ◌*◌, ◌<◌, ◌≤◌, Bool, cond, eqb, List, length, sym, refl, ap, ◌∙◌, subst, add-mul, one-mul, add-one, arith, rules}
+use Rattle.std.proofs.Common.{◌≡◌, ℕ, suc, ◌+◌, ◌≤◌, Bool, cond, eqb, List, sym, refl, ap, ◌∙◌, subst, add-one, arith}
 use Rattle.store.proofs.Tallies.{tally_more, tally_same, bit_le}
 use Rattle.memory.specs.Four.{be4}
-use Rattle.chained_theory.specs.Layout.{start_of, next_at, closing_at, place_at, head_at, count_of, without, home_of, front_of}
+use Rattle.chained_theory.specs.Layout.{start_of, next_at, closing_at, place_at, count_of, without, home_of, front_of}
 use Rattle.chained_theory.specs.Links.{Laid, Fronted, Forgot}
 use Rattle.chained_theory.proofs.Walks.{record_fits, rec_next}
 use Rattle.chained_theory.proofs.Writes.{fronts, past_heads, past_same}

@@ -1,4 +1,4 @@
-use Rattle.std.proofs.Common.{◌≡◌, ℕ, ◌+◌, ◌<◌, ◌≤◌}
+use Rattle.std.proofs.Common.{◌≡◌, ℕ, ◌+◌, ◌≤◌}
 use Rattle.chained_theory.specs.Layout.{start_of, next_at, count_of}
 use Rattle.chained_theory.specs.Links.{Laid, Forgot}
 use Rattle.chained.proofs.relay.Given as goal

@@ -1,5 +1,5 @@
-use Rattle.std.proofs.Common.{◌≡◌, ℕ, ◌+◌, ◌*◌, ◌<◌, ◌≤◌, get_or, sym, refl, ap, ◌∙◌, subst, inl, inr, arith, below_more}
-use Rattle.memory.specs.Four.{be4, put4}
+use Rattle.std.proofs.Common.{◌≡◌, ◌*◌, get_or, ap, ◌∙◌, inl, inr, arith, below_more}
+use Rattle.memory.specs.Four.{be4}
 use Rattle.memory.proofs.Fours.{getD_put4, be4_put4_same, be4_put4_other}
 use Rattle.chained_theory.specs.Layout.{head_at}
 use Rattle.chained.proofs.zero_heads.Goals as goal

@@ -1,4 +1,4 @@
-use Rattle.std.proofs.Common.{◌≡◌, ◌+◌, ◌≤◌, length, sym, refl, ap, ◌∙◌, arith}
+use Rattle.std.proofs.Common.{length, sym, ◌∙◌, arith}
 use Rattle.store.specs.Meaning.{Meaning}
 use Rattle.store.proofs.Inside.{span_out, span_in}
 use Rattle.client.proofs.Fills.{filled_cleared, fill_opened}

@@ -1,4 +1,4 @@
-use Rattle.std.proofs.Common.{◌≡◌, ℕ, ◌+◌, ◌*◌, ◌%◌, ◌^◌, ◌<◌, ◌≤◌, leb, sym, refl, ap, ◌∙◌, mod-eq_of_lt, arith, pow_mono, pow-add}
+use Rattle.std.proofs.Common.{◌≡◌, ◌+◌, ◌*◌, ◌%◌, ◌^◌, ◌≤◌, leb, sym, ap, ◌∙◌, mod-eq_of_lt, arith, pow_mono, pow-add}
 use Rattle.std.proofs.lemmas.Bool.{lt-leb}
 use Rattle.client.proofs.holds_places.Goals as goal
 

@@ -1,4 +1,4 @@
-use Rattle.std.proofs.Common.{◌≡◌, ℕ, ◌+◌, ◌<◌, ◌≤◌, true, sym, refl, ap, ◌∙◌, subst, arith}
+use Rattle.std.proofs.Common.{◌≡◌, ℕ, ◌+◌, ◌<◌, ◌≤◌, true, sym, ◌∙◌, subst, arith}
 use Rattle.store.specs.Meaning.{Meaning, inside}
 use Rattle.store.proofs.Inside.{span_out, key_in}
 use Rattle.store.proofs.Rooms.{put_missing, missing_le}

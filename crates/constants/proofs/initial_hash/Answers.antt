@@ -1,6 +1,6 @@
 use mathlib.Core.Path.{refl}
 use Rattle.constants.specs.Tables.{round_constants, initial_hash}
-use Rattle.constants.proofs.Rule.{cube_roots, square_roots}
+use Rattle.constants.proofs.Rule.{square_roots}
 use Rattle.constants.proofs.initial_hash.Goals as goal
 
 pub returns : goal.returns

@@ -1,4 +1,4 @@
-use Rattle.std.proofs.Common.{◌≡◌, ℕ, ◌+◌, List, length, take, sym, refl, ap, ◌∙◌, arith, rules}
+use Rattle.std.proofs.Common.{◌+◌, rules}
 use Rattle.node.specs.Meant.{node_of}
 use Rattle.store.specs.Meaning.{Meaning}
 use Rattle.client.proofs.Fetches.{fetched_is}

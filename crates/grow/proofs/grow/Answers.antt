@@ -1,4 +1,4 @@
-use Rattle.std.proofs.Common.{◌≡◌, ℕ, ◌+◌, ◌-◌, ◌^◌, ◌<◌, ◌≤◌, sym, refl, ap, ◌∙◌, subst, arith}
+use Rattle.std.proofs.Common.{◌≡◌, ◌+◌, ◌-◌, ◌^◌, ◌≤◌, sym, subst, arith}
 use Rattle.store.specs.Meaning.{Meaning}
 use Rattle.grow.specs.Growing.{Risen}
 use Rattle.grow.proofs.Levels.{risen_up, risen_lines, grown}

@@ -1,4 +1,4 @@
-use Rattle.std.proofs.Common.{◌≡◌, ℕ, ◌-◌, ◌^◌, ◌≤◌}
+use Rattle.std.proofs.Common.{◌-◌, ◌^◌, ◌≤◌}
 use Rattle.store.specs.Meaning.{Meaning}
 use Rattle.closing.specs.Closings.{Closing}
 use Rattle.grow.specs.Growing.{IsClosing, Ripe, Risen}

@@ -1,4 +1,3 @@
-use Rattle.std.proofs.Common.{◌≡◌, ℕ, ◌^◌}
 use Rattle.store.specs.Meaning.{Meaning}
 use Rattle.closing.specs.Closings.{Closing}
 use Rattle.grow.specs.Growing.{IsClosing, Ripe, Risen}

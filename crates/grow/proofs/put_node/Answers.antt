@@ -1,4 +1,4 @@
-use Rattle.std.proofs.Common.{◌≡◌, ◌+◌, List, length, take, sym, refl, ap, ◌∙◌, subst}
+use Rattle.std.proofs.Common.{◌≡◌, length, take, sym, ap, ◌∙◌, subst}
 use Rattle.node.specs.Texts.{node_bytes}
 use Rattle.node.specs.Meant.{node_of}
 use Rattle.verify.proofs.Shapes.{front}

@@ -1,4 +1,4 @@
-use Rattle.std.proofs.Common.{◌≡◌, ℕ, ◌+◌, ◌-◌, ◌^◌, ◌<◌, ◌≤◌, sym, refl, ap, ◌∙◌, subst, arith, pow_mono}
+use Rattle.std.proofs.Common.{◌≡◌, ◌+◌, ◌-◌, ◌^◌, ◌≤◌, sym, ap, ◌∙◌, arith, pow_mono}
 use Rattle.grow.proofs.Levels.{raised_over}
 use Rattle.grow.proofs.raise_level.Goals as goal
 

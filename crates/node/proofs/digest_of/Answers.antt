@@ -1,4 +1,4 @@
-use Rattle.std.proofs.Common.{◌≡◌, ◌≤◌, length, take, ap, ◌∙◌, arith, length-take, rules}
+use Rattle.std.proofs.Common.{◌≤◌, length, ap, arith, length-take}
 use Rattle.digest.proofs.Short.{not_refused}
 use Rattle.node.proofs.digest_of.Goals as goal
 

@@ -1,4 +1,4 @@
-use Rattle.std.proofs.Common.{◌≡◌, ℕ, List, ◌++◌, take, sym, refl, ap, ◌∙◌, rules}
+use Rattle.std.proofs.Common.{◌++◌, take, ap, ◌∙◌, rules}
 use Rattle.octets.specs.BigEndian.{be}
 use Rattle.octets.proofs.Numbers.{be_4}
 use Rattle.node.proofs.Parts.{four_parts}

@@ -1,4 +1,4 @@
-use Rattle.std.proofs.Common.{◌≡◌, ◌-◌, length, take, drop, sym, refl, ap, ◌∙◌}
+use Rattle.std.proofs.Common.{◌-◌, length, take, drop}
 use Rattle.node.proofs.NodeBytes.{rest_is, short, bad, good}
 use Rattle.node.proofs.read_node.Goals as goal
 

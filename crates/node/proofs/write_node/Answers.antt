@@ -1,5 +1,5 @@
-use Rattle.std.proofs.Common.{◌≡◌, ℕ, ◌+◌, ◌-◌, ◌≤◌, List, ◌++◌, length, take, drop, sym, refl, ap, ◌∙◌, arith, length-append, length-take, rules}
-use borrow.Rule.Slice.PartMut.{put_mid, post_of}
+use Rattle.std.proofs.Common.{◌≡◌, ◌+◌, ◌-◌, ◌≤◌, ◌++◌, length, take, drop, sym, ap, ◌∙◌, arith, length-append, length-take, rules}
+use borrow.Rule.Slice.PartMut.{post_of}
 use Rattle.refusal.specs.Tables.{written}
 use Rattle.refusal.proofs.Buffers.{written_all}
 use Rattle.node.proofs.NodeBytes.{two_parts}

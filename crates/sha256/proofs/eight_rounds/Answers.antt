@@ -1,4 +1,4 @@
-use Rattle.std.proofs.Common.{◌≡◌, ◌+◌, refl, arith}
+use Rattle.std.proofs.Common.{◌≡◌, ◌+◌, arith}
 use Rattle.sha256.specs.Sha256.{rounds}
 use Rattle.sha256.proofs.Turns.{one_round}
 use Rattle.sha256.proofs.eight_rounds.Goals as goal

@@ -1,4 +1,4 @@
-use Rattle.std.proofs.Common.{◌≡◌, ◌-◌, ◌<◌, ◌≤◌, length, get_or, sym, refl, ap, ◌∙◌, arith, rules}
+use Rattle.std.proofs.Common.{◌≡◌, ◌-◌, ◌<◌, length, get_or, arith, rules}
 use Rattle.sha256.specs.Sha256.{next}
 use Rattle.sha256.specs.Words.{add}
 use Rattle.sha256.proofs.Turns.{scheduled_more}

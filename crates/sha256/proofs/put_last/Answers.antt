@@ -1,4 +1,4 @@
-use Rattle.std.proofs.Common.{◌≡◌, ◌-◌, ◌*◌, ◌%◌, ◌^◌, sym, refl, ap, ◌∙◌, arith}
+use Rattle.std.proofs.Common.{◌-◌, ◌*◌, ◌%◌, ◌^◌, ◌∙◌, arith}
 use Rattle.octets.proofs.Numbers.{be_8, be_mod}
 use Rattle.sha256.proofs.Ends.{last_is}
 use Rattle.sha256.proofs.put_last.Goals as goal

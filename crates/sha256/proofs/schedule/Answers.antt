@@ -1,4 +1,4 @@
-use Rattle.std.proofs.Common.{◌≡◌, ◌+◌, ◌-◌, ◌*◌, length, take, sym, refl, ap, ◌∙◌, arith, length-set, take_all, rules}
+use Rattle.std.proofs.Common.{◌≡◌, ◌+◌, ◌*◌, sym, refl, ◌∙◌, arith, length-set, take_all}
 use Rattle.sha256.specs.Sha256.{words, scheduled, schedule}
 use Rattle.sha256.proofs.Turns.{words_more, scheduled_at}
 use Rattle.sha256.proofs.schedule.Goals as goal

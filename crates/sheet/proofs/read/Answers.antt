@@ -1,4 +1,4 @@
-use Rattle.std.proofs.Common.{◌≡◌, ℕ, ◌+◌, ◌-◌, true, false, length, get_or, take, drop, sym, refl, ap, ◌∙◌, arith}
+use Rattle.std.proofs.Common.{◌+◌, ◌-◌, length, take, drop, sym, ap, ◌∙◌, arith}
 use Rattle.octets.specs.BigEndian.{value}
 use Rattle.node.specs.Meant.{node_of}
 use Rattle.sheet.proofs.Rows.{behind_3, behind_7, at_limits, at_amount, at_sheet}

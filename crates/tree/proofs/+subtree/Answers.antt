@@ -1,6 +1,5 @@
-use Rattle.std.proofs.Common.{◌≡◌, ℕ, suc, ◌+◌, ◌-◌, ◌*◌, ◌^◌, ◌<◌, ◌≤◌, T, sym, refl, ap, ◌∙◌, subst, arith}
+use Rattle.std.proofs.Common.{◌≡◌, suc, ◌-◌, T, arith}
 use Rattle.refusal.proofs.Exits.{handed_on}
-use Rattle.node.specs.Texts.{Line, Node}
 use Rattle.node.specs.Meant.{line_of, node_of, lines_of}
 use Rattle.tree.proofs.Subtrees.{halves, nth_each, refused_left, refused_right, over_both}
 use Rattle.tree.proofs.+subtree.Goals as goal

@@ -1,4 +1,4 @@
-use Rattle.std.proofs.Common.{◌≡◌, sym, ap, ◌∙◌}
+use Rattle.std.proofs.Common.{sym, ap, ◌∙◌}
 use Rattle.node.specs.Meant.{line_of, lines_of}
 use Rattle.tree.specs.Trees.{leaf_at}
 use Rattle.tree.proofs.Subtrees.{nth_line, nth_none}

@@ -1,4 +1,4 @@
-use Rattle.std.proofs.Common.{◌≡◌, ℕ, ◌+◌, ◌-◌, ◌*◌, ◌^◌, ◌<◌, ◌≤◌, Bool, true, false, ◌||◌, T, ltb, leb, List, [], ◌∷◌, map, length, sym, refl, ap, ◌∙◌, subst}
+use Rattle.std.proofs.Common.{◌≡◌, ◌-◌, ◌^◌, true, false, ◌||◌, T, ltb, leb, sym}
 use Rattle.tree.specs.Trees.{bad_limits}
 use Rattle.node.specs.Meant.{line_of, lines_of, node_of}
 use Rattle.tree.proofs.Subtrees.{many, few, has_node, shallow, nth_each}

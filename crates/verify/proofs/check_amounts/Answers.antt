@@ -1,4 +1,4 @@
-use Rattle.std.proofs.Common.{◌≡◌, ℕ, ◌+◌, ◌-◌, ◌<◌, ◌≤◌, Some, None, sym, refl, ap, ◌∙◌, arith}
+use Rattle.std.proofs.Common.{◌≡◌, ◌+◌, ◌-◌, sym, ap, ◌∙◌, arith}
 use Rattle.refusal.proofs.Exits.{handed_on}
 use Rattle.verify.specs.Checks.{field_refusal, first_from}
 use Rattle.verify.proofs.Amounts.{all_fields, same_field, offset_small, fields_next, fields_stop, fields_done}

@@ -1,4 +1,4 @@
-use Rattle.std.proofs.Common.{◌≡◌, ◌+◌, ◌-◌, ◌≤◌, length}
+use Rattle.std.proofs.Common.{◌≡◌, ◌+◌, ◌-◌}
 use Rattle.verify.specs.Checks.{amounts_refusal, field_refusal, first_from}
 use Rattle.verify.proofs.check_amounts.Given as goal
 

@@ -1,8 +1,7 @@
-use Rattle.std.proofs.Common.{◌≡◌, ℕ, ◌+◌, ◌*◌, ◌^◌, true, length, take, drop, sym, refl, ap, ◌∙◌, arith}
+use Rattle.std.proofs.Common.{◌≡◌, ◌+◌, ◌*◌, true, length, take, drop, sym, ap, ◌∙◌, arith}
 use Rattle.octets.specs.BigEndian.{value}
 use Rattle.octets.specs.Tests.{same}
 use Rattle.file.specs.Layout.{file_length}
-use Rattle.sheet.specs.Layout.{head}
 use Rattle.sheet.specs.Meant.{sheet_of}
 use Rattle.verify.proofs.Shapes.{behind, at_leaf, at_end}
 use Rattle.verify.proofs.check_shape.Goals as goal

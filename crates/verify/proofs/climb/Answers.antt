@@ -1,4 +1,4 @@
-use Rattle.std.proofs.Common.{◌≡◌, ℕ, ◌+◌, ◌-◌, ◌<◌, ◌≤◌, length, sym, refl, ap, ◌∙◌, subst, arith}
+use Rattle.std.proofs.Common.{◌≡◌, ◌+◌, ◌-◌, ◌<◌, sym, ap, ◌∙◌, subst, arith}
 use Rattle.refusal.proofs.Exits.{handed_on}
 use Rattle.verify.specs.Paths.{file_of, path_node}
 use Rattle.verify.specs.Checks.{field_refusal, join_refusal_at, first_from}

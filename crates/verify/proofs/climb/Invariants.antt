@@ -1,4 +1,4 @@
-use Rattle.std.proofs.Common.{◌≡◌, ◌+◌, ◌-◌, ◌≤◌}
+use Rattle.std.proofs.Common.{◌≡◌, ◌+◌, ◌-◌}
 use Rattle.verify.specs.Paths.{file_of}
 use Rattle.verify.specs.Checks.{join_refusal_at, joins_refusal, first_from}
 use Rattle.verify.specs.Walks.{Walks}

@@ -1,4 +1,4 @@
-use Rattle.std.proofs.Common.{◌≡◌, sym, refl, ap, ◌∙◌, subst}
+use Rattle.std.proofs.Common.{◌≡◌, sym, subst}
 use Rattle.file.specs.Fields.{HasIndex, bytes_of, field_bytes}
 use Rattle.verify.proofs.Amounts.{step_good, step_bad}
 use Rattle.verify.proofs.judge.Goals as goal

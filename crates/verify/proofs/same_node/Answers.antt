@@ -1,4 +1,4 @@
-use Rattle.std.proofs.Common.{◌≡◌, ◌-◌, length, take, sym, refl, ap, ◌∙◌, arith}
+use Rattle.std.proofs.Common.{◌≡◌, ◌-◌, take, ap, ◌∙◌, arith}
 use Rattle.octets.specs.Tests.{same}
 use Rattle.node.specs.Texts.{node_bytes}
 use Rattle.node.specs.Meant.{node_of}

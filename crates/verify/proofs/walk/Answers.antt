@@ -1,4 +1,4 @@
-use Rattle.std.proofs.Common.{◌≡◌, ℕ, suc, ◌+◌, ◌-◌, ◌/◌, ◌%◌, ◌^◌, ◌≤◌, cond, eqb, sym, refl, ap, ◌∙◌, subst, arith}
+use Rattle.std.proofs.Common.{◌≡◌, suc, ◌+◌, ◌-◌, ◌/◌, ◌%◌, ◌^◌, cond, eqb, ap, ◌∙◌, subst, arith}
 use Rattle.node.specs.Meant.{node_of}
 use Rattle.file.specs.Fields.{HasIndex, bytes_of, field_bytes}
 use Rattle.verify.specs.Paths.{file_of, is_left, path_node}

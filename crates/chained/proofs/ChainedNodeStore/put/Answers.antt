@@ -1,4 +1,4 @@
-use Rattle.std.proofs.Common.{◌≡◌, ℕ, length, vec_items, sym, ◌∙◌}
+use Rattle.std.proofs.Common.{length, vec_items, ◌∙◌}
 use Rattle.store.proofs.Refusals.{get_opened, put_open}
 use Rattle.chained_theory.proofs.Walks.{found_some}
 use Rattle.chained.specs.Meaning.{chained_meaning}

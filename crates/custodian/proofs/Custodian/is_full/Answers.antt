@@ -1,4 +1,4 @@
-use Rattle.std.proofs.Common.{◌≡◌, leb, sym, refl, ap, ◌∙◌}
+use Rattle.std.proofs.Common.{leb, ap, ◌∙◌}
 use Rattle.custodian.proofs.Rows.{how_many}
 use Rattle.custodian.proofs.Custodian.is_full.Goals as goal
 

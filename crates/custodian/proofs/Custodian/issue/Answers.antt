@@ -1,4 +1,4 @@
-use Rattle.std.proofs.Common.{◌≡◌, get_or, sym, refl, ap, ◌∙◌, subst}
+use Rattle.std.proofs.Common.{get_or, sym, refl, ◌∙◌}
 use Rattle.closing.specs.Closings.{no_line}
 use Rattle.custodian.proofs.Papers.{same_stores, no_file, no_leaf, there, number_is, depth_is, tree_stands, texts_stand, leaf_there, file_told}
 use Rattle.custodian.proofs.Custodian.issue.Goals as goal

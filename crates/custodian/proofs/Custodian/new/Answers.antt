@@ -1,4 +1,4 @@
-use Rattle.std.proofs.Common.{◌≡◌, refl}
+use Rattle.std.proofs.Common.{refl}
 use Rattle.closing.proofs.Steps.{represents_new}
 use Rattle.closing.proofs.Standings.{standings_hold}
 use Rattle.closing.proofs.Accounts.{lines_account}

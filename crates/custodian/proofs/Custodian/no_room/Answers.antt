@@ -1,4 +1,4 @@
-use Rattle.std.proofs.Common.{◌≡◌, ℕ, ◌+◌, ◌-◌, ◌*◌, ◌^◌, ◌<◌, ◌≤◌, not, ltb, sym, refl, ap, ◌∙◌, arith, pow_mono}
+use Rattle.std.proofs.Common.{◌≡◌, ◌+◌, ◌-◌, ◌*◌, ◌^◌, ◌≤◌, not, ltb, ap, ◌∙◌, arith, pow_mono}
 use Rattle.store.specs.Meaning.{Meaning}
 use Rattle.store.specs.Counts.{held}
 use Rattle.closing.proofs.Goods.{two_powers}

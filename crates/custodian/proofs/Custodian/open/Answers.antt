@@ -1,4 +1,4 @@
-use Rattle.std.proofs.Common.{◌≡◌, sym, refl, ap, ◌∙◌, subst}
+use Rattle.std.proofs.Common.{sym, refl}
 use Rattle.custodian.proofs.Calls.{open_done, open_spans, keeps_opened}
 use Rattle.custodian.proofs.Custodian.open.Goals as goal
 

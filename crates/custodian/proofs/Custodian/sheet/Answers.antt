@@ -1,4 +1,4 @@
-use Rattle.std.proofs.Common.{◌≡◌, sym, refl, ap, ◌∙◌, subst}
+use Rattle.std.proofs.Common.{sym, refl, ◌∙◌}
 use Rattle.custodian.proofs.Papers.{same_stores, no_sheet, there, number_is, depth_is, tree_stands, sheet_told}
 use Rattle.custodian.proofs.Custodian.sheet.Goals as goal
 

@@ -1,4 +1,4 @@
-use Rattle.std.proofs.Common.{◌≡◌, is_some, sym, refl, ap, ◌∙◌}
+use Rattle.std.proofs.Common.{is_some, ap, ◌∙◌}
 use Rattle.custodian.proofs.Rows.{found_some}
 use Rattle.custodian.proofs.Custodian.stands.Goals as goal
 

@@ -1,4 +1,4 @@
-use Rattle.std.proofs.Common.{◌≡◌, take, sym, refl, ap, ◌∙◌, subst}
+use Rattle.std.proofs.Common.{take, sym, ap, ◌∙◌}
 use Rattle.roll.specs.Rolls.{without_number}
 use Rattle.roll.specs.Stands.{number_of}
 use Rattle.custodian.proofs.Calls.{withdraw_done, withdraw_spans, keeps_withdrawn, same_digest}

@@ -1,4 +1,4 @@
-use Rattle.std.proofs.Common.{◌≡◌, take, sym, refl, ap, ◌∙◌, subst}
+use Rattle.std.proofs.Common.{take, ap}
 use Rattle.custodian.proofs.Calls.{abandon_spans, keeps_abandoned, same_digest}
 use Rattle.custodian.proofs.Ledger.abandon.Goals as goal
 

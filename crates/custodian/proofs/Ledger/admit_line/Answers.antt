@@ -1,12 +1,7 @@
-use Rattle.std.proofs.Common.{◌≡◌, ℕ, ◌+◌, ◌^◌, ◌<◌, ◌≤◌, ◌⊎◌, List, [], ◌∷◌, ◌++◌, length, sym, refl, ap, ◌∙◌, subst, inl, inr, arith}
+use Rattle.std.proofs.Common.{ℕ, List, sym, ap, ◌∙◌}
 use Rattle.refusal.proofs.Exits.{handed_on}
-use Rattle.amount.specs.Kinds.{Kind, Laws, join_refusal}
-use Rattle.digest.specs.Hashes.{Hash}
-use Rattle.node.specs.Texts.{Line}
-use Rattle.tree.specs.Trees.{balances_total}
-use Rattle.store.specs.Meaning.{Meaning}
-use Rattle.closing.specs.Closings.{Closing, State, ledger_of, line, enter_refusal}
-use Rattle.custodian.proofs.Rows.{total_push, by_joining, unless_ok, low_depth}
+use Rattle.closing.specs.Closings.{line}
+use Rattle.custodian.proofs.Rows.{unless_ok, low_depth}
 use Rattle.custodian.proofs.Calls.{joining_decides, total_with}
 use Rattle.custodian.proofs.Ledger.admit_line.Goals as goal
 

@@ -1,4 +1,4 @@
-use Rattle.std.proofs.Common.{◌≡◌, sym, refl, ap, ◌∙◌, subst}
+use Rattle.std.proofs.Common.{refl, ◌∙◌}
 use Rattle.custodian.proofs.Calls.{ripe_now, is_closing, few_stand, keeps_closed}
 use Rattle.custodian.proofs.Ledger.close.Goals as goal
 

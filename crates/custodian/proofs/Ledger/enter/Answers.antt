@@ -1,8 +1,7 @@
-use Rattle.std.proofs.Common.{◌≡◌, ℕ, ◌+◌, ◌^◌, ◌<◌, ◌≤◌, take, sym, refl, ap, ◌∙◌, subst}
+use Rattle.std.proofs.Common.{◌≡◌, ◌+◌, ◌^◌, take, sym, refl, ap, subst}
 use Rattle.node.specs.Texts.{Line, node_bytes, leaf_node, leaf_text}
 use Rattle.store.specs.Meaning.{Meaning}
 use Rattle.store.specs.Calls.{Put}
-use Rattle.closing.specs.Closings.{next, Enter}
 use Rattle.custodian.specs.Keeping.{KeepsOpen}
 use Rattle.custodian.proofs.Calls.{enter_denied, enter_answered, enter_puts, keeps_entered, same_digest_open}
 use Rattle.custodian.proofs.Ledger.enter.Goals as goal

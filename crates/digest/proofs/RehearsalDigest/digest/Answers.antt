@@ -1,4 +1,4 @@
-use Rattle.std.proofs.Common.{◌≡◌, ℕ, ◌+◌, ◌%◌, ◌<◌, List, [], ◌∷◌, ◌++◌, length, get_or, take, replicate, sym, refl, ap, ◌∙◌, arith, take_all, rules}
+use Rattle.std.proofs.Common.{◌≡◌, ℕ, ◌+◌, ◌%◌, List, [], ◌∷◌, ◌++◌, get_or, take, replicate, ap, ◌∙◌, arith, take_all, rules}
 use Rattle.std.proofs.lemmas.List.{take_more}
 use Rattle.digest.specs.Digests.{sum, rehearsed}
 use Rattle.digest.proofs.RehearsalDigest.digest.Goals as goal

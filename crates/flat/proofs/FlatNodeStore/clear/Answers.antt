@@ -1,11 +1,11 @@
-use Rattle.std.proofs.Common.{◌≡◌, ℕ, ◌+◌, ◌-◌, ◌*◌, ◌<◌, ◌≤◌, get_or, None, vec_items, vec_len, Vec, sym, refl, ap, ◌∙◌, add-mul, arith}
+use Rattle.std.proofs.Common.{◌≡◌, ℕ, ◌+◌, ◌-◌, ◌*◌, ◌<◌, ◌≤◌, get_or, None, vec_items, vec_len, Vec, ap, ◌∙◌, add-mul, arith}
 use Rattle.std.specs.declared.alloc.Global.{Global}
 use Rattle.store.specs.Counts.{held}
 use Rattle.store.specs.Calls.{Cleared, held_refusal}
 use Rattle.flat.specs.declared.types.Flat.{Flat}
 use Rattle.store.proofs.Inside.{span_out}
 use Rattle.store.proofs.Refusals.{held_open}
-use Rattle.store.proofs.Rooms.{cleared_all, held_le_all}
+use Rattle.store.proofs.Rooms.{cleared_all}
 use Rattle.flat_theory.specs.Layout.{flat_of, slot_of}
 use Rattle.flat_theory.proofs.Slots.{slot_fits, row_slot}
 use Rattle.flat_theory.proofs.Finds.{clear_slots}

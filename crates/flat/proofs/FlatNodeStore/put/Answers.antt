@@ -1,4 +1,4 @@
-use Rattle.std.proofs.Common.{◌≡◌, ℕ, ◌+◌, ◌≤◌, true, cond, List, length, set, is_some, None, vec_items, vec_len, ◌∙◌, arith}
+use Rattle.std.proofs.Common.{◌≡◌, ℕ, ◌+◌, ◌≤◌, cond, List, length, set, is_some, None, vec_items, ◌∙◌, arith}
 use Rattle.store.specs.Calls.{Put, get_refusal}
 use Rattle.store.proofs.Inside.{key_span}
 use Rattle.store.proofs.Refusals.{get_opened, put_open}

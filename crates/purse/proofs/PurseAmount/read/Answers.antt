@@ -1,4 +1,4 @@
-use Rattle.std.proofs.Common.{◌≡◌, length, sym, refl, ap, ◌∙◌}
+use Rattle.std.proofs.Common.{length, sym, ap, ◌∙◌}
 use Rattle.refusal.proofs.Exits.{handed_on}
 use Rattle.amount.specs.Rows.{purse}
 use Rattle.amount.proofs.RowLaws.{purse_laws}

@@ -1,4 +1,4 @@
-use Rattle.std.proofs.Common.{◌≡◌, Bool, false, cond, get_or, refl, ◌∙◌, arith, rules}
+use Rattle.std.proofs.Common.{◌≡◌, get_or, refl, ◌∙◌, arith, rules}
 use Rattle.octets.specs.BigEndian.{be}
 use Rattle.octets.proofs.Numbers.{be_8}
 use Rattle.purse.proofs.Four.{puts}

@@ -1,4 +1,4 @@
-use Rattle.std.proofs.Common.{◌≡◌, ◌<◌, ◌≤◌, length, take, refl, arith, length-take, rules}
+use Rattle.std.proofs.Common.{◌≡◌, length, arith, length-take, rules}
 use Rattle.std.proofs.lemmas.List.{take_more_set}
 use Rattle.roll.proofs.Roll.add.Goals as goal
 

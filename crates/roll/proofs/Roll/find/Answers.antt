@@ -1,4 +1,4 @@
-use Rattle.std.proofs.Common.{◌≡◌, ◌<◌, ◌≤◌, length, get_or, take, sym, refl, ap, ◌∙◌, arith, length-take, rules}
+use Rattle.std.proofs.Common.{◌≡◌, length, get_or, take, sym, ◌∙◌, arith, length-take}
 use Rattle.roll.specs.declared.types.Stand.{Stand}
 use Rattle.roll.specs.Stands.{number_of}
 use Rattle.roll.proofs.Rolls.{found_here, found_later, found_none, of_front}

@@ -1,4 +1,4 @@
-use Rattle.std.proofs.Common.{◌≡◌, length, take, sym, arith, length-take, rules}
+use Rattle.std.proofs.Common.{◌≡◌, length, arith, length-take}
 use Rattle.roll.proofs.Roll.len.Goals as goal
 
 pub returns : goal.returns

@@ -1,4 +1,4 @@
-use Rattle.std.proofs.Common.{◌≡◌, ℕ, ◌+◌, ◌*◌, ◌<◌, ◌≤◌, List, vec_items, vec_len, sym, refl, ap, ◌∙◌, arith}
+use Rattle.std.proofs.Common.{ℕ, List, vec_items, vec_len, refl, arith}
 use Rattle.chained_theory.proofs.Fits.{chained_fits}
 use Rattle.chained_theory.proofs.Relays.{laid_heads}
 use Rattle.chained_theory.proofs.Clears.{new_linked, new_none}

@@ -1,11 +1,11 @@
-use Rattle.std.proofs.Common.{◌≡◌, ℕ, ◌+◌, ◌*◌, ◌<◌, ◌≤◌, eqb, List, length, vec_items, vec_len, sym, refl, ap, ◌∙◌, subst, arith}
+use Rattle.std.proofs.Common.{ℕ, ◌+◌, ◌≤◌, eqb, List, vec_items, sym, subst, arith}
 use mathlib.Core.Logic.{∥∥₁_elim, ∥∥₁_map}
 use native.Mathlib.Bridge.{le_prop}
 use Rattle.store.specs.Calls.{Cleared}
 use Rattle.store.proofs.Tallies.{tally_le}
 use Rattle.store.proofs.Inside.{span_out}
 use Rattle.store.proofs.Props.{cleared_prop}
-use Rattle.chained_theory.specs.Layout.{chained_of, closing_at, count_of}
+use Rattle.chained_theory.specs.Layout.{chained_of, closing_at}
 use Rattle.chained_theory.specs.Links.{Linked}
 use Rattle.chained_theory.proofs.Relays.{laid_heads}
 use Rattle.chained_theory.proofs.Clears.{clear_linked, clear_few, cleared}

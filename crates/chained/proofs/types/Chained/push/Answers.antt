@@ -1,11 +1,11 @@
-use Rattle.std.proofs.Common.{◌≡◌, ℕ, ◌+◌, ◌-◌, ◌*◌, ◌<◌, ◌≤◌, List, length, vec_items, vec_len, sym, refl, ap, ◌∙◌, subst, arith}
+use Rattle.std.proofs.Common.{◌≡◌, ℕ, ◌+◌, ◌-◌, ◌*◌, ◌≤◌, List, length, vec_items, sym, ap, ◌∙◌, subst, arith}
 use mathlib.Core.Logic.{∥∥₁_elim, ∥∥₁_map}
 use mathlib.Core.HLevel.{×_prop}
 use native.Mathlib.Bridge.{le_prop}
 use Rattle.store.specs.Calls.{Put}
 use Rattle.store.proofs.Inside.{key_out}
 use Rattle.store.proofs.Props.{put_prop}
-use Rattle.chained_theory.specs.Layout.{start_of, head_at, next_at, bucket_of, chained_of, push_on}
+use Rattle.chained_theory.specs.Layout.{head_at, next_at, bucket_of, chained_of, push_on}
 use Rattle.chained_theory.specs.Links.{Linked}
 use Rattle.chained_theory.proofs.Writes.{past_heads}
 use Rattle.chained_theory.proofs.Puts.{free_record, push_linked, push_written, push_heads, push_nexts}

@@ -1,4 +1,4 @@
-use Rattle.std.proofs.Common.{◌≡◌, ◌-◌, vec_items, sym, refl, ap, ◌∙◌, arith}
+use Rattle.std.proofs.Common.{◌-◌, vec_items, sym, ap, ◌∙◌, arith}
 use Rattle.chained_theory.specs.Layout.{seek_from}
 use Rattle.chained_theory.proofs.Walks.{seek_none, seek_here, seek_more}
 use Rattle.chained.proofs.types.Chained.seek.Goals as goal

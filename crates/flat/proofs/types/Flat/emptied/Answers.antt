@@ -1,7 +1,7 @@
-use Rattle.std.proofs.Common.{◌≡◌, ℕ, ◌+◌, ◌-◌, ◌*◌, ◌<◌, ◌≤◌, vec_items, vec_len, sym, refl, ap, ◌∙◌, arith}
+use Rattle.std.proofs.Common.{vec_items, vec_len, refl, arith}
 use Rattle.store.proofs.Rooms.{none_held}
 use Rattle.flat_theory.specs.Layout.{flat_of, flat_room}
-use Rattle.flat_theory.proofs.Finds.{none_found, flat_fits, flat_small}
+use Rattle.flat_theory.proofs.Finds.{none_found, flat_fits}
 use Rattle.flat.proofs.types.Flat.emptied.Goals as goal
 
 pub invariant_of-result : goal.invariant_of-result

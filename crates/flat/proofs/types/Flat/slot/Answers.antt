@@ -1,4 +1,4 @@
-use Rattle.std.proofs.Common.{◌≡◌, refl, arith}
+use Rattle.std.proofs.Common.{refl, arith}
 use Rattle.store.proofs.Inside.{key_out}
 use Rattle.flat_theory.specs.Layout.{slot_of}
 use Rattle.flat_theory.proofs.Slots.{slot_fits}

@@ -1,4 +1,4 @@
-use Rattle.std.proofs.Common.{◌≡◌, ◌+◌, ◌-◌, ◌≤◌, ◌++◌, length, take, drop, sym, refl, ap, ◌∙◌, arith, length-take, rules}
+use Rattle.std.proofs.Common.{◌≡◌, ◌+◌, ◌-◌, ◌≤◌, ◌++◌, length, take, drop, sym, ap, ◌∙◌, arith, length-take, rules}
 use Rattle.std.proofs.lemmas.Slice.{take-put_mid}
 use Rattle.refusal.proofs.Buffers.{written_all}
 use Rattle.node.proofs.text.Text.push_amount.Goals as goal
