@@ -4,6 +4,6 @@ set -e
 cd "$(dirname "$0")/.."
 build=$(mktemp -d)
 trap 'rm -rf "$build"' EXIT
-rt staticlib export_check >"$build/log" 2>&1 || { cat "$build/log"; exit 1; }
-gcc -O3 -o "$build/bench" bench/time_check.c bench/check_plain.c bench/sha256.c target/staticlib/libexport_check.a
+(cd crates/export_check && rt lib) >"$build/log" 2>&1 || { cat "$build/log"; exit 1; }
+gcc -O3 -o "$build/bench" bench/time_check.c bench/check_plain.c bench/sha256.c crates/export_check/out/libexport_check.a
 "$build/bench"

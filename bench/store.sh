@@ -2,11 +2,11 @@
 # Put and get on the flat store against a plain array of slots, in one run; prints both times and their ratio.
 set -e
 cd "$(dirname "$0")/.."
-said=$(rt check bench_store 2>&1) || { echo "$said"; exit 1; }
+said=$(cd crates/bench_store && rt run 2>&1) || { echo "$said"; exit 1; }
 out=target/bench
 mkdir -p $out
 cc -O3 bench/store.c bench/slots.c -o $out/store
-flat=target/bin/bench_store plain=$out/store
+flat=crates/bench_store/out/bench_store plain=$out/store
 n=20000000
 
 # The best of nine, less the best of nine of the same with every place put and got once: what is put is read back, and

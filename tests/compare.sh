@@ -5,7 +5,7 @@
 #   KIND   a kind of tests/generate.py (default: all)
 #   COUNT  calls in each script (default: 1000)
 #   SEEDS  number of scripts, from seed 1 on (default: 50)
-# The program is target/bin/sumtree, or what SUMTREE names.
+# The program is crates/sumtree/out/sumtree, or what SUMTREE names.
 
 set -u
 export LC_ALL=C
@@ -14,7 +14,7 @@ kind=${1:-all}
 count=${2:-1000}
 seeds=${3:-50}
 tests=$(cd "$(dirname "$0")" && pwd)
-program=${SUMTREE:-$tests/../target/bin/sumtree}
+program=${SUMTREE:-$tests/../crates/sumtree/out/sumtree}
 
 if ! command -v "$program" >/dev/null; then
     echo "there is no program $program" >&2

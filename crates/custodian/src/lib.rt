@@ -2,7 +2,7 @@
 //!
 //! States are types and move: opening gives an open `Ledger`, closing or abandoning it gives the `Custodian` back, and a ledger
 //! cannot be let go. Every call's contract says its answer, and the state afterwards, by the definitions in `closing`:
-//! `Keeps` and `Keeps-open` tie the custodian's fields and the meanings of its stores to that state. How stores lie in
+//! `Keeps` and `KeepsOpen` tie the custodian's fields and the meanings of its stores to that state. How stores lie in
 //! memory is not known here; a change of a text or a layout is made below.
 #![tactic(auto)]
 

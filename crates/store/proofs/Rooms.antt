@@ -87,7 +87,7 @@ room_for m c p k a b h e =
     let gone : f (p - 1) ≡ true = ap (λ q. not (is_some (m.find c q))) at ∙ ap (λ o. not (is_some o)) e in
     omega (arith, tally_some f k (p - 1) (omega arith) gone)
 
--- No put at a place of 1 to k is refused, where the room is enough for what is missing there; `put-missing` keeps that so.
+-- No put at a place of 1 to k is refused, where the room is enough for what is missing there; `put_missing` keeps that so.
 pub put_fits : (m : Meaning) (c p k n : ℕ) → inside m c p ≡ true → p ≤ k → n ≡ m.width → missing m c k ≤ m.room → put_refusal m c p n ≡ None
 put_fits m c p k n t b w h = put_open m c p n t w (λ e. room_for m c p k (key_out m.first m.last m.bound c p t).2 b h e)
 
