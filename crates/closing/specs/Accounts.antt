@@ -1,6 +1,6 @@
 -- Which lines a closing has: those that were entered between its opening and its closing.
 use Rattle.std.specs.Prelude.{◌≡◌, ℕ, cond, List, [], ◌∷◌, ◌++◌, Some, None, Option, ◌≢◌}
-use Rattle.std.specs.List.{AllByRecursion as All}
+use Rattle.std.specs.List.{AllByRecursion}
 use Rattle.refusal.specs.declared.cases.Refusal.{Refusal}
 use Rattle.amount.specs.Kinds.{Kind}
 use Rattle.node.specs.Texts.{Line}
@@ -35,7 +35,7 @@ module _ (k : Kind) where
     pub is : calls ≡ before ++ (Open c.number c.depth ∷ since)
     pub none_open : (after k start before).ledger ≡ None
     pub unrefused : open_refusal k (after k start before) c.number c.depth ≡ None
-    pub unclosed : All (λ (x : Call). (x ≢ Close) × (x ≢ Abandon)) since
+    pub unclosed : AllByRecursion (λ (x : Call). (x ≢ Close) × (x ≢ Abandon)) since
     pub lines_are : c.lines ≡ lines_entered (next k (after k start before) (Open c.number c.depth)) since
 
   -- it was closed, and not withdrawn since

@@ -1,6 +1,6 @@
 -- What holds over every list of a new custodian's calls.
 use Rattle.std.specs.Prelude.{◌≡◌, ℕ, ◌+◌, ◌^◌, ◌≤◌, List, length, take, Some, None, ◌≢◌}
-use Rattle.std.specs.List.{AllByRecursion as All}
+use Rattle.std.specs.List.{AllByRecursion}
 use Rattle.amount.specs.Kinds.{Kind, Laws}
 use Rattle.digest.specs.Hashes.{Hash, HashLaws}
 use Rattle.sheet.specs.Layout.{Sheet, read_sheet}
@@ -10,7 +10,7 @@ use Rattle.closing.specs.Closings.{State, new, Call, Withdraw, Write, Issue, Wro
 
 -- closing n is not withdrawn in these calls
 abbrev pub Lasts : ℕ → List Call → Type 0
-Lasts n calls = All (λ (c : Call). c ≢ Withdraw n) calls
+Lasts n calls = AllByRecursion (λ (c : Call). c ≢ Withdraw n) calls
 
 module _ (k : Kind) (h : Hash) where
   -- the customer's check passes, and answers the place of the leaf
