@@ -1,6 +1,6 @@
 -- What an auditor answers from a sheet just laid to the next: by the laid sheet, the calls, and the meanings of the two stores
 -- right after laying.
-use Rattle.std.specs.Prelude.{ℕ, zero, suc, ◌+◌, ◌*◌, ◌/◌, ◌^◌, Bool, false, cond, not, ◌&&◌, ◌||◌, ltb, List, [], ◌∷◌, ◌++◌, map, length, take, drop, is_some, Some, None, Option, ◌==◌, nat_lt, slice_index}
+use Rattle.std.specs.Prelude.{ℕ, zero, suc, ◌+◌, ◌*◌, ◌/◌, ◌^◌, Bool, false, cond, not, ◌&&◌, ◌||◌, List, [], ◌∷◌, ◌++◌, map, length, take, drop, is_some, Some, None, Option, ◌==◌, nat_lt, slice_index}
 use Rattle.octets.specs.BigEndian.{value}
 use Rattle.octets.specs.Tests.{same}
 use Rattle.refusal.specs.declared.cases.Refusal.{Refusal}
@@ -144,7 +144,7 @@ module _ (k : Kind) (h : Hash) (s : Sheet) where
 
     abbrev pub hand_refusal : Option Texts → ℕ → Option Refusal
     hand_refusal None size = None
-    hand_refusal (Some t) size = first ((ltb size (length (both_texts t)) ⇒ BufferTooShort) ∷ [])
+    hand_refusal (Some t) size = first ((nat_lt size (length (both_texts t)) ⇒ BufferTooShort) ∷ [])
 
     abbrev pub handed_by : Option Refusal → Option Texts → List ℕ → Answer
     handed_by (Some r) shown buffer = refused r

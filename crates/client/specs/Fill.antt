@@ -1,5 +1,5 @@
 -- A closing filled with one record at each of its first n places.
-use Rattle.std.specs.Prelude.{◌≡◌, ℕ, ◌+◌, ◌≤◌, not, ◌&&◌, ltb, List, [], ◌∷◌, Some, None, Option, ◌==◌, ◌≢◌, nat_lt}
+use Rattle.std.specs.Prelude.{◌≡◌, ℕ, ◌+◌, ◌≤◌, not, ◌&&◌, List, [], ◌∷◌, Some, None, Option, ◌==◌, ◌≢◌, nat_lt}
 use Rattle.refusal.specs.declared.cases.Refusal.{Refusal}
 use Rattle.refusal.specs.declared.cases.Refusal.TheVariants.{KeyOutside, WrongWidth, Full}
 use Rattle.refusal.specs.Tables.{◌⇒◌, first}
@@ -11,7 +11,7 @@ abbrev pub fill_refusal : Meaning → ℕ → ℕ → ℕ → Option Refusal
 fill_refusal m c n width = first
     ((not (in_span m c && nat_lt n m.bound) ⇒ KeyOutside)
     ∷ (not (width == m.width) ⇒ WrongWidth)
-    ∷ (ltb (m.room + held m c) n ⇒ Full)
+    ∷ (nat_lt (m.room + held m c) n ⇒ Full)
     ∷ [])
 
 -- the closing has the record at places 1 to n and nothing else, and the other closings have what they had

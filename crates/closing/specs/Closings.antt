@@ -1,5 +1,5 @@
 -- What a custodian answers to each call, by the calls since it was new and the meanings of its two stores then.
-use Rattle.std.specs.Prelude.{ℕ, ◌+◌, ◌-◌, ◌^◌, Bool, false, cond, not, ◌&&◌, ◌||◌, ltb, List, [], ◌∷◌, ◌++◌, length, is_some, Some, None, Option, ◌==◌, nat_le, nat_lt}
+use Rattle.std.specs.Prelude.{ℕ, ◌+◌, ◌-◌, ◌^◌, Bool, false, cond, not, ◌&&◌, ◌||◌, List, [], ◌∷◌, ◌++◌, length, is_some, Some, None, Option, ◌==◌, nat_le, nat_lt}
 use Rattle.std.specs.Option.{unwrap_or}
 use Rattle.std.specs.List.{slice_get}
 use Rattle.refusal.specs.declared.cases.Refusal.{Refusal}
@@ -113,7 +113,7 @@ module _ (k : Kind) where
       ∷ (is_some (stands n s.standing) ⇒ AlreadyStands)
       ∷ (nat_le 8 (length s.standing) ⇒ EightStand)
       ∷ (not (suits s.nodes.start (32 + k.width) n depth && suits s.leaves.start (37 + k.width) n depth) ⇒ StoreUnsuited)
-      ∷ (nat_lt (s.nodes.room + s.nodes.held_of n) (2 ^ (depth + 1) - 1) || ltb (s.leaves.room + s.leaves.held_of n) (2 ^ depth) ⇒ Full)
+      ∷ (nat_lt (s.nodes.room + s.nodes.held_of n) (2 ^ (depth + 1) - 1) || nat_lt (s.leaves.room + s.leaves.held_of n) (2 ^ depth) ⇒ Full)
       ∷ [])
 
   abbrev pub enter_refusal : Closing → List ℕ → List ℕ → List ℕ → Option Refusal
@@ -126,13 +126,13 @@ module _ (k : Kind) where
   abbrev pub write_refusal : State → ℕ → ℕ → Option Refusal
   write_refusal s n size = first (
       (not (is_some (stands n s.standing)) ⇒ NotStanding)
-      ∷ (ltb size (39 + k.width) ⇒ BufferTooShort)
+      ∷ (nat_lt size (39 + k.width) ⇒ BufferTooShort)
       ∷ [])
 
   abbrev pub issue_refusal : State → ℕ → ℕ → ℕ → Option Refusal
   issue_refusal s n leaf size = first (
       (not (is_some (line_of s n leaf)) ⇒ NotStanding)
-      ∷ (ltb size (file_length k.width (standing_of s n).depth) ⇒ BufferTooShort)
+      ∷ (nat_lt size (file_length k.width (standing_of s n).depth) ⇒ BufferTooShort)
       ∷ [])
 
   abbrev pub withdraw_refusal : State → ℕ → Option Refusal

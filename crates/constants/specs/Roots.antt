@@ -1,10 +1,10 @@
 -- The rule of the constants: the first 32 bits behind the point of the roots of the first primes.
-use Rattle.std.specs.Prelude.{◌≡◌, Bool, true, false, cond, List, [], ◌∷◌, ◌++◌, ℕ, zero, suc, ◌+◌, ◌*◌, ◌%◌, ◌^◌, ◌<◌, ◌≤◌, eqb, length, get_or}
+use Rattle.std.specs.Prelude.{◌≡◌, Bool, true, false, cond, List, [], ◌∷◌, ◌++◌, ℕ, zero, suc, ◌+◌, ◌*◌, ◌%◌, ◌^◌, ◌<◌, ◌≤◌, length, ◌==◌, slice_index}
 
 -- no number from 2 to k + 1 divides n
 abbrev pub undivided : ℕ → ℕ → Bool
 undivided zero n = true
-undivided (suc k) n = cond (eqb (n % (2 + k)) 0) false (undivided k n)
+undivided (suc k) n = cond (n % (2 + k) == 0) false (undivided k n)
 
 -- the primes from 2 to k + 1, in order
 abbrev pub primes : ℕ → List ℕ
@@ -18,4 +18,4 @@ Fraction degree p k =
 
 -- entry by entry
 abbrev pub Fractions : ℕ → List ℕ → List ℕ → Type 0
-Fractions degree ps ks = (length ks ≡ length ps) × ((i : ℕ) → i < length ks → Fraction degree (get_or ps i 0) (get_or ks i 0))
+Fractions degree ps ks = (length ks ≡ length ps) × ((i : ℕ) → i < length ks → Fraction degree (slice_index ps i) (slice_index ks i))

@@ -1,5 +1,5 @@
 -- The tree of a ledger: what stands at each of its places.
-use Rattle.std.specs.Prelude.{ℕ, zero, suc, ◌+◌, ◌-◌, ◌*◌, ◌^◌, Bool, not, ◌||◌, ltb, List, [], ◌∷◌, map, length, Some, None, Option, nat_le, nat_lt}
+use Rattle.std.specs.Prelude.{ℕ, zero, suc, ◌+◌, ◌-◌, ◌*◌, ◌^◌, Bool, not, ◌||◌, List, [], ◌∷◌, map, length, Some, None, Option, nat_le, nat_lt}
 use Rattle.std.specs.List.{slice_get}
 use Rattle.refusal.specs.declared.cases.Refusal.{Refusal}
 use Rattle.refusal.specs.declared.cases.Refusal.TheVariants.{BadLimits, LeavesTaken, LeafOutside, JoinUnwritable}
@@ -35,7 +35,7 @@ module _ (k : Kind) (h : Hash) (closing : ℕ) (lines : List Line) where
   abbrev pub node_refusal : ℕ → ℕ → ℕ → Option Refusal
   node_refusal depth height n = first (
       (bad_limits closing depth ⇒ BadLimits)
-      ∷ (ltb (2 ^ depth) (length lines) ⇒ LeavesTaken)
+      ∷ (nat_lt (2 ^ depth) (length lines) ⇒ LeavesTaken)
       ∷ (nat_lt depth height || nat_le (2 ^ (depth - height)) n ⇒ LeafOutside)
       ∷ (not (k.writable (node_at height n).amount) ⇒ JoinUnwritable 0)
       ∷ [])
