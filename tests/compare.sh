@@ -5,7 +5,7 @@
 #   KIND   a kind of tests/generate.py (default: all)
 #   COUNT  calls in each script (default: 1000)
 #   SEEDS  number of scripts, from seed 1 on (default: 50)
-# The program is crates/sumtree/out/sumtree, or what SUMTREE names.
+# The program is crates/sumtree/out/sumtree, which `tools/run sumtree` builds, or what SUMTREE names.
 
 set -u
 export LC_ALL=C

@@ -1,7 +1,8 @@
 //! Code over any node store, shown from the store's contract alone.
 //!
-//! What is written here knows nothing of flat or chained stores. It is the pattern for a caller whose puts cannot be
-//! refused: see the room once, and go on.
+//! What is written here knows nothing of flat or chained stores. Filling a closing is the pattern for a caller whose puts
+//! cannot be refused: see the room once, and go on. Fetching, keeping and forgetting are for callers that know from
+//! elsewhere that no refusal comes: where one does, nothing changes.
 #![tactic(auto)]
 
 ghost use Rattle.std.specs.Prelude.{◌≡◌, ℕ, ◌+◌, ◌^◌, ◌<◌, ◌≤◌, true, false, length, is_some, Some, None, nat_le};

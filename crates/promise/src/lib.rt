@@ -6,7 +6,7 @@
 
 ghost use Rattle.promise.specs.Promise.{Promise};
 
-// A call that does nothing, so that the promise stands on a contract here too.
+// A call that does nothing, so that the promise stands on a contract.
 pub fn stands() -> u8
     ensures { Promise }
 {
