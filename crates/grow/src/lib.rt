@@ -9,6 +9,7 @@ ghost use Rattle.std.specs.Prelude.{◌≡◌, ℕ, ◌+◌, ◌-◌, ◌*◌, �
 ghost use Rattle.node.specs.Texts.{Node as NodeSaid, node_bytes, inner_node};
 ghost use Rattle.node.specs.Meant.{node_of};
 ghost use Rattle.store.specs.Meaning.{Meaning, inside};
+ghost use Rattle.refusal.specs.declared.cases.Refusal.{Refusal as RefusalSaid};
 ghost use Rattle.store.specs.Calls.{put_refusal, Put};
 ghost use Rattle.client.specs.Fetch.{fetched};
 ghost use Rattle.closing.specs.Closings.{Closing as ClosingSaid};
@@ -23,12 +24,14 @@ use numbering::{Closing, Key, Leaf, Place};
 use store::NodeStore;
 use tree::leaf_count;
 
-// Puts a node at a place, where the store does not refuse it.
+// Puts a node at a place, where the store does not refuse it; otherwise nothing changes.
 pub fn put_node<A: Amount, N: NodeStore>(nodes: &mut N, key: Key, node: &Node<A>)
     requires { N.ok nodes.old }
     ensures keeps { N.ok nodes.new }
     ensures is { put_refusal (N.meaning nodes.old) key.closing.0 key.place.0 (32 + A.kind.width) ≡ None
         → Put (N.meaning nodes.old) (N.meaning nodes.new) key.closing.0 key.place.0 (node_bytes A.kind (node_of A.meaning node.now)) }
+    ensures refused { (e : RefusalSaid) → put_refusal (N.meaning nodes.old) key.closing.0 key.place.0 (32 + A.kind.width) ≡ Some e
+        → N.meaning nodes.new ≡ N.meaning nodes.old }
 {
     let mut record = [0u8; 112];
     match write_node(node, &mut record) {
