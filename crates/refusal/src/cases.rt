@@ -1,6 +1,6 @@
 //! The refusals, each with the offset that it points at where it points at one.
 
-#[derive(Clone, Copy, Debug)]
+#[derive(Clone, Copy, Debug, PartialEq, Eq)]
 pub enum Refusal {
     // a text of more than 65,536 bytes
     TextTooLong,
