@@ -1,33 +1,30 @@
 -- The kinds made of rows of numbers keep the laws.
-use Rattle.std.proofs.Common.{◌≡◌, ℕ, zero, suc, ◌*◌, ◌^◌, ◌<◌, ◌≤◌, Bool, true, false, cond, ◌&&◌, T, eqb, leb, List, [], ◌∷◌, length, get_or, replicate, Some, None, Option, sym, refl, ap, ◌∙◌, subst, add_assoc, add_comm, zero-add, arith, le→leb, eqb→eq, ltb→lt, lt→ltb, leb→le}
-use lib.ListN.{length-replicate}
+use Rattle.std.proofs.Common.{◌≡◌, ℕ, zero, suc, ◌+◌, ◌*◌, ◌^◌, ◌<◌, ◌≤◌, Bool, true, false, cond, ◌&&◌, T, eqb, leb, List, [], ◌∷◌, ◌++◌, length, take, drop, get_or, replicate, Some, None, Option, sym, refl, ap, ◌∙◌, subst, add_assoc, add_comm, zero-add, arith, le→leb, eqb→eq, ltb→lt, lt→ltb, leb→le, length-drop, take-append-drop}
+use Rattle.std.proofs.lemmas.List.{length-replicate, length-take-le, get_or-drop}
 use Rattle.octets.specs.BigEndian.{be, value}
-use Rattle.octets.specs.Tests.{same, every}
-use Rattle.octets.proofs.Numbers.{value_be_small}
+use Rattle.std.specs.List.{list_all, AllByRecursion}
+use Rattle.octets.specs.Tests.{same}
+use Rattle.octets.proofs.Numbers.{value_be_small, be_value}
 use Rattle.octets.proofs.Passes.{both_in, both_out, eqb_in, same_refl, same_out, true_T, false_T}
 use Rattle.amount.specs.Kinds.{Laws}
-use Rattle.amount.specs.Rows.{plus, at_most, small, writable, bytes, numbers, read, rows, single, purse, four}
-
-abbrev pub All : (ℕ → Type 0) → List ℕ → Type 0
-All P [] = Unit {0}
-All P (x ∷ xs) = P x × All P xs
+use Rattle.amount.specs.Rows.{plus, at_most, small, writable, bytes, numbers, read, rows, Allowed}
 
 abbrev pub Small : ℕ → Type 0
 Small x = x < 2 ^ 63
 
-small_in : (m : List ℕ) → All Small m → T (every small m)
+small_in : (m : List ℕ) → AllByRecursion Small m → T (list_all small m)
 small_in [] h = tt
-small_in (x ∷ m) h = both_in (small x) (every small m) (lt→ltb x (2 ^ 63) h.0) (small_in m h.1)
+small_in (x ∷ m) h = both_in (small x) (list_all small m) (lt→ltb x (2 ^ 63) h.0) (small_in m h.1)
 
-small_out : (m : List ℕ) → T (every small m) → All Small m
+small_out : (m : List ℕ) → T (list_all small m) → AllByRecursion Small m
 small_out [] h = tt
-small_out (x ∷ m) h = let p = both_out (small x) (every small m) h in (ltb→lt x (2 ^ 63) p.0, small_out m p.1)
+small_out (x ∷ m) h = let p = both_out (small x) (list_all small m) h in (ltb→lt x (2 ^ 63) p.0, small_out m p.1)
 
-pub writable_in : (count : ℕ) (m : List ℕ) → (length m ≡ count) × All Small m → T (writable count m)
-writable_in count m h = both_in (eqb (length m) count) (every small m) (eqb_in (length m) count h.0) (small_in m h.1)
+pub writable_in : (count : ℕ) (m : List ℕ) → (length m ≡ count) × AllByRecursion Small m → T (writable count m)
+writable_in count m h = both_in (eqb (length m) count) (list_all small m) (eqb_in (length m) count h.0) (small_in m h.1)
 
-pub writable_out : (count : ℕ) (m : List ℕ) → T (writable count m) → (length m ≡ count) × All Small m
-writable_out count m h = let p = both_out (eqb (length m) count) (every small m) h in (eqb→eq (length m) count p.0, small_out m p.1)
+pub writable_out : (count : ℕ) (m : List ℕ) → T (writable count m) → (length m ≡ count) × AllByRecursion Small m
+writable_out count m h = let p = both_out (eqb (length m) count) (list_all small m) h in (eqb→eq (length m) count p.0, small_out m p.1)
 
 plus_comm : (x y : List ℕ) → plus x y ≡ plus y x
 plus_comm [] [] = refl
@@ -53,7 +50,7 @@ plus_zero zero (a ∷ x) p = absurd (omega arith)
 plus_zero (suc n) [] p = absurd (omega arith)
 plus_zero (suc n) (a ∷ x) p = let e = zero-add a in let r = plus_zero n x (omega arith) in cc
 
-zero_small : (n : ℕ) → All Small (replicate n 0)
+zero_small : (n : ℕ) → AllByRecursion Small (replicate n 0)
 zero_small zero = tt
 zero_small (suc n) = (omega arith, zero_small n)
 
@@ -100,7 +97,7 @@ most_plus (a ∷ x) [] z p = absurd p
 most_plus (a ∷ x) (b ∷ y) [] p = tt
 most_plus (a ∷ x) (b ∷ y) (c ∷ z) p = (omega arith, most_plus x y z p.1)
 
-most_small : (x y : List ℕ) → AtMost x y → All Small y → All Small x
+most_small : (x y : List ℕ) → AtMost x y → AllByRecursion Small y → AllByRecursion Small x
 most_small [] [] p q = tt
 most_small [] (b ∷ y) p q = absurd p
 most_small (a ∷ x) [] p q = absurd p
@@ -117,7 +114,7 @@ bytes_length [] = refl
 bytes_length (a ∷ x) = let r = bytes_length x in omega arith
 
 -- reading what was written
-numbers_bytes : (n : ℕ) (x : List ℕ) → length x ≡ n → All Small x → numbers n (bytes x) ≡ x
+numbers_bytes : (n : ℕ) (x : List ℕ) → length x ≡ n → AllByRecursion Small x → numbers n (bytes x) ≡ x
 numbers_bytes zero [] p h = refl
 numbers_bytes zero (a ∷ x) p h = absurd (omega arith)
 numbers_bytes (suc n) [] p h = absurd (omega arith)
@@ -148,11 +145,11 @@ read_some count s x e =
 some_inj : (x y : List ℕ) → ◌≡◌ {A = Option (List ℕ)} (Some x) (Some y) → x ≡ y
 some_inj x y e = cc
 
-pub rows_laws : (number count : ℕ) → number ≤ 255 → 1 ≤ count → count ≤ 10 → Laws (rows number count)
-rows_laws number count a b c = record {
-  number_small = a;
-  width_low = omega arith;
-  width_high = omega arith;
+pub rows_laws : (number count : ℕ) → Allowed number count → Laws (rows number count)
+rows_laws number count a = record {
+  number_small = a.0;
+  width_low = let l = a.1 in omega arith;
+  width_high = let m = a.2 in omega arith;
   writable_count = λ x h. (writable_out count x h).0;
   join_count = plus_length count;
   zero_writable = writable_in count (replicate count 0) (length-replicate count 0, zero_small count);
@@ -173,31 +170,54 @@ rows_laws number count a b c = record {
   read_only = read_some count;
 }
 
--- every number of a writable row is small
-pub places : (s : List ℕ) → All Small s → (k : ℕ) → get_or s k 0 < 2 ^ 63
-places [] h k = omega arith
-places (x ∷ s) h zero = h.0
-places (x ∷ s) h (suc k) = places s h.1 k
+pub single_allowed : Allowed 1 1
+single_allowed = (omega arith, omega arith, omega arith)
 
--- a row of another length, or with a number that is not small, is not writable
-pub unwritable : (count : ℕ) (s : List ℕ) → (length s ≡ count → ((k : ℕ) → get_or s k 0 < 2 ^ 63) → ⊥) → writable count s ≡ false
-unwritable count s h = false_T (writable count s) (λ w. let o = writable_out count s w in h o.0 (places s o.1))
+pub purse_allowed : Allowed 2 4
+purse_allowed = (omega arith, omega arith, omega arith)
 
-pub one_is : (s : List ℕ) → length s ≡ 1 → get_or s 0 0 ∷ [] ≡ s
-one_is [] p = absurd (omega arith)
-one_is (x ∷ []) p = refl
-one_is (x ∷ y ∷ s) p = absurd (omega arith)
+-- a writable row is as long as its kind says, and has small numbers only
+pub row_writable : (count : ℕ) (m : List ℕ) → length m ≡ count → list_all small m ≡ true → T (writable count m)
+row_writable count m l s = both_in (eqb (length m) count) (list_all small m) (eqb_in (length m) count l) (subst T (sym s) tt)
 
-pub four_is : (s : List ℕ) → length s ≡ 4 → four s ≡ s
-four_is [] p = absurd (omega arith)
-four_is (x ∷ []) p = absurd (omega arith)
-four_is (x ∷ y ∷ []) p = absurd (omega arith)
-four_is (x ∷ y ∷ z ∷ []) p = absurd (omega arith)
-four_is (x ∷ y ∷ z ∷ w ∷ []) p = refl
-four_is (x ∷ y ∷ z ∷ w ∷ v ∷ s) p = absurd (omega arith)
+pub row_parts : (count : ℕ) (m : List ℕ) → T (writable count m) → (length m ≡ count) × (list_all small m ≡ true)
+row_parts count m w =
+    let p = both_out (eqb (length m) count) (list_all small m) w in
+    (eqb→eq (length m) count p.0, true_T (list_all small m) p.1)
 
-pub single_laws : Laws single
-single_laws = rows_laws 1 1 (omega arith) (omega arith) (omega arith)
+pub numbers_length : (n : ℕ) (s : List ℕ) → length (numbers n s) ≡ n
+numbers_length zero s = refl
+numbers_length (suc n) s = ap suc (numbers_length n (drop 8 s))
 
-pub purse_laws : Laws purse
-purse_laws = rows_laws 2 4 (omega arith) (omega arith) (omega arith)
+front_byte : (n : ℕ) (s : List ℕ) → ((i : ℕ) → get_or s i 0 < 256) → (i : ℕ) → get_or (take n s) i 0 < 256
+front_byte zero s h i = omega arith
+front_byte (suc n) [] h i = omega arith
+front_byte (suc n) (x ∷ s) h zero = h 0
+front_byte (suc n) (x ∷ s) h (suc i) = front_byte n s (λ j. h (suc j)) i
+
+-- the bytes of the numbers that bytes write
+pub bytes_numbers : (n : ℕ) (s : List ℕ) → length s ≡ 8 * n → ((i : ℕ) → get_or s i 0 < 256) → bytes (numbers n s) ≡ s
+bytes_numbers zero [] l h = refl
+bytes_numbers zero (a ∷ s) l h = absurd (omega arith)
+bytes_numbers (suc n) s l h =
+    let t : length (take 8 s) ≡ 8 = length-take-le 8 s (omega arith) in
+    let d : length (drop 8 s) ≡ 8 * n = length-drop 8 s ∙ omega arith in
+    let p : be 8 (value (take 8 s)) ≡ take 8 s = ap (λ k. be k (value (take 8 s))) (sym t) ∙ be_value (take 8 s) (front_byte 8 s h) in
+    let q : bytes (numbers n (drop 8 s)) ≡ drop 8 s = bytes_numbers n (drop 8 s) d (λ i. subst (λ v. v < 256) (sym (get_or-drop 8 s i 0)) (h (8 + i))) in
+    ap (λ b. b ++ bytes (numbers n (drop 8 s))) p ∙ ap (λ b. take 8 s ++ b) q ∙ take-append-drop 8 s
+
+-- what is read of bytes as long as the kind's: their numbers, where they are small
+module _ (n : ℕ) (s : List ℕ) (l : length s ≡ 8 * n) (h : (i : ℕ) → get_or s i 0 < 256) where
+  pub small_read : list_all small (numbers n s) ≡ true → read n s ≡ Some (numbers n s)
+  small_read e =
+      let m = numbers n s in
+      ap (λ b. cond b (Some m) None) (true_T (writable n m && same (bytes m) s) (both_in (writable n m) (same (bytes m) s)
+      (row_writable n m (numbers_length n s) e) (subst (λ t. T (same t s)) (sym (bytes_numbers n s l h)) (same_refl s))))
+
+  pub large_unread : list_all small (numbers n s) ≡ false → read n s ≡ None
+  large_unread e =
+      let m = numbers n s in
+      ap (λ b. cond b (Some m) None) (false_T (writable n m && same (bytes m) s) (λ w.
+      let p = row_parts n m (both_out (writable n m) (same (bytes m) s) w).0 in
+      let f : false ≡ true = sym e ∙ p.1 in
+      let z : ◌≡◌ {A = ℕ} 0 1 = cc in omega arith))

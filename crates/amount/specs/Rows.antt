@@ -1,7 +1,8 @@
 -- Kinds whose amounts are rows of numbers up to 2^63 - 1, each in eight bytes, joined and ordered number by number.
-use Rattle.std.specs.Prelude.{ℕ, zero, suc, ◌+◌, ◌*◌, ◌^◌, Bool, true, false, cond, ◌&&◌, List, [], ◌∷◌, ◌++◌, length, take, drop, replicate, Some, None, Option, ◌==◌, nat_le, nat_lt, slice_index}
+use Rattle.std.specs.Prelude.{ℕ, zero, suc, ◌+◌, ◌*◌, ◌^◌, ◌≤◌, Bool, true, false, cond, ◌&&◌, List, [], ◌∷◌, ◌++◌, length, take, drop, replicate, Some, None, Option, ◌==◌, nat_le, nat_lt}
 use Rattle.octets.specs.BigEndian.{be, value}
-use Rattle.octets.specs.Tests.{same, every}
+use Rattle.std.specs.List.{list_all}
+use Rattle.octets.specs.Tests.{same}
 use Rattle.amount.specs.Kinds.{Kind}
 
 abbrev pub plus : List ℕ → List ℕ → List ℕ
@@ -19,7 +20,7 @@ abbrev pub small : ℕ → Bool
 small x = nat_lt x (2 ^ 63)
 
 abbrev pub writable : ℕ → List ℕ → Bool
-writable count m = length m == count && every small m
+writable count m = length m == count && list_all small m
 
 abbrev pub bytes : List ℕ → List ℕ
 bytes [] = []
@@ -46,6 +47,10 @@ rows number count = record {
   read = read count;
 }
 
+-- a number of a kind and a length of rows that the laws allow
+abbrev pub Allowed : ℕ → ℕ → Type 0
+Allowed number count = (number ≤ 255) × (1 ≤ count) × (count ≤ 10)
+
 -- cents
 abbrev pub single : Kind
 single = rows 1 1
@@ -53,7 +58,3 @@ single = rows 1 1
 -- cents in four currencies
 abbrev pub purse : Kind
 purse = rows 2 4
-
--- the numbers of a purse
-abbrev pub four : List ℕ → List ℕ
-four s = slice_index s 0 ∷ slice_index s 1 ∷ slice_index s 2 ∷ slice_index s 3 ∷ []

@@ -11,9 +11,6 @@ ghost use Rattle.amount.specs.Kinds.{Kind, Laws, join_refusal, read_refusal, wri
 
 use refusal::cases::Refusal;
 
-// The largest number of an amount that is a row of numbers: 2^63 - 1.
-pub const MOST: u64 = 0x7fff_ffff_ffff_ffff;
-
 pub trait Amount: Copy {
     ghost kind: { Kind };
 

@@ -11,7 +11,7 @@ ghost use Rattle.sheet.specs.Layout.{Sheet as SheetSaid, read_sheet};
 ghost use Rattle.verify.specs.Checks.{check_refusal, leaf_place};
 
 use digest::kinds::Sha256;
-use single::Single;
+use row::Single;
 use verify::check;
 
 // The leaf's place where the file passes under the sheet, and 0 where it is refused.

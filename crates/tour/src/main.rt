@@ -19,7 +19,7 @@ use octets::{be4, be8};
 use refusal::cases::Refusal;
 use sheet::head;
 use sheet::types::Sheet;
-use single::Single;
+use row::Single;
 use std::alloc::Global;
 use std::{fs, io};
 use store::NodeStore;
