@@ -1,95 +1,84 @@
 //! The roll: the closings that stand, at most eight, in the order in which they were closed.
 //!
-//! A fixed table, so that closing a ledger allocates nothing and cannot fail. What it says is the list of its first `len`
-//! rows. No other room of the library is known here but the numberings.
+//! Fixed memory, so that closing a ledger allocates nothing and cannot fail. A clause sees it as the list of its closings. No
+//! other room of the library is known here but the numberings.
 #![tactic(auto)]
 
-ghost use Rattle.std.specs.Prelude.{◌≡◌, ℕ, ◌+◌, ◌<◌, ◌≤◌, List, [], ◌∷◌, ◌++◌, length, take};
+ghost use Rattle.std.specs.Prelude.{◌≡◌, ◌<◌, ◌≤◌, [], ◌∷◌, ◌++◌, length};
 ghost use Rattle.roll.specs.Rolls.{under_number, without_number};
 ghost use Rattle.roll.specs.Stands.{number_of};
 
 pub mod types;
 
+use arrayvec::ArrayVec;
 use numbering::Closing;
+use std::marker::Model;
 use types::Stand;
 
-// How many closings can stand.
-const MOST: usize = 8;
+// The closing of a number.
+fn find_in(stands: &[Stand], closing: Closing) -> Option<Stand>
+    ensures { result ≡ under_number number_of closing.0 stands.now }
+{
+    stands.iter().copied().find(|s| s.closing == closing)
+}
+
+// Takes a number off a list.
+fn remove_from(stands: &mut ArrayVec<Stand, 8>, closing: Closing)
+    ensures { stands.new.items ≡ without_number number_of closing.0 stands.old.items }
+{
+    stands.retain(|s| s.closing != closing);
+}
 
 #[derive(Drop)]
 pub struct Roll {
-    rows: [Stand; 8],
-    len: usize,
-    ghost few: { (len ≤ 8) × (length rows ≡ 8) },
+    stands: ArrayVec<Stand, 8>,
 }
 
-// A row that is not in use.
-fn blank() -> Stand {
-    Stand {
-        closing: Closing(0),
-        depth: 0,
-        lines: 0,
-    }
+impl Model for Roll {
+    ghost use Rattle.std.specs.Prelude.{List};
+    ghost use Rattle.roll.specs.declared.types.Stand.{Stand as StandSaid};
+
+    ghost Value = { List StandSaid };
+
+    ghost view = { λ r. r.stands.items };
 }
 
 impl Roll {
     // A roll with nothing on it.
     pub fn new() -> Roll
-        ensures { take result.len result.rows ≡ [] }
+        ensures { result ≡ [] }
     {
         Roll {
-            rows: [blank(); MOST],
-            len: 0,
+            stands: ArrayVec::new(),
         }
     }
 
     // How many closings stand.
     pub fn len(&self) -> usize
-        ensures { result ≡ length (take self.now.len self.now.rows) }
+        ensures { result ≡ length self.now }
     {
-        self.len
+        self.stands.len()
     }
 
     // The closing of a number, where it stands.
     pub fn find(&self, closing: Closing) -> Option<Stand>
-        ensures { result ≡ under_number number_of closing.0 (take self.now.len self.now.rows) }
+        ensures { result ≡ under_number number_of closing.0 self.now }
     {
-        for i in 0..self.len {
-            if self.rows[i].closing.0 == closing.0 {
-                return Some(self.rows[i]);
-            }
-        }
-        None
+        find_in(&self.stands, closing)
     }
 
     // Puts a closing behind the others, where fewer than eight stand; otherwise nothing changes.
     pub fn add(&mut self, stand: Stand)
-        ensures added { length (take self.old.len self.old.rows) < 8
-            → take self.new.len self.new.rows ≡ take self.old.len self.old.rows ++ (stand ∷ []) }
-        ensures full { 8 ≤ length (take self.old.len self.old.rows)
-            → take self.new.len self.new.rows ≡ take self.old.len self.old.rows }
+        ensures added { length self.old < 8 → self.new ≡ self.old ++ (stand ∷ []) }
+        ensures full { 8 ≤ length self.old → self.new ≡ self.old }
     {
-        let len = self.len;
-        if len < MOST {
-            self.rows[len] = stand;
-            self.len = len + 1;
-        }
+        let _ = self.stands.try_push(stand);
     }
 
     // Takes a number off the roll.
     pub fn remove(&mut self, closing: Closing)
-        ensures { take self.new.len self.new.rows ≡ without_number number_of closing.0 (take self.old.len self.old.rows) }
+        ensures { self.new ≡ without_number number_of closing.0 self.old }
     {
-        let rows = self.rows;
-        let mut kept = [blank(); MOST];
-        let mut len = 0;
-        for i in 0..self.len {
-            if rows[i].closing.0 != closing.0 {
-                kept[len] = rows[i];
-                len += 1;
-            }
-        }
-        self.rows = kept;
-        self.len = len;
+        remove_from(&mut self.stands, closing);
     }
 }

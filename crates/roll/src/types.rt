@@ -1,7 +1,7 @@
 //! A closing that stands, as the roll has it.
 use numbering::Closing;
 
-#[derive(Clone, Copy)]
+#[derive(Clone, Copy, Debug, PartialEq, Eq, Default)]
 pub struct Stand {
     pub closing: Closing,
     pub depth: u8,
