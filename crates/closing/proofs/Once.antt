@@ -1,5 +1,5 @@
 -- No number stands twice, so the closing that is withdrawn is one of the list.
-use Rattle.std.proofs.Common.{◌≡◌, ℕ, Bool, true, false, cond, eqb, List, [], ◌∷◌, ◌++◌, Some, None, Option, sym, refl, ap, ◌∙◌, inl, inr}
+use Rattle.std.proofs.Common.{◌≡◌, ℕ, Bool, true, false, cond, not, eqb, List, [], ◌∷◌, ◌++◌, Some, None, Option, sym, refl, ap, ◌∙◌, inl, inr}
 use Rattle.std.proofs.lemmas.Bool.{cases_eq, cond-true, cond-false, eqb-false, eq-eqb, ne_eqb}
 use Rattle.closing.specs.Closings.{Closing, stands, without}
 use Rattle.closing.specs.Holdings.{Once}
@@ -34,7 +34,7 @@ pub once_without : (n : ℕ) (st : List Closing) → Once st → Once (without n
 once_without n [] o = tt
 once_without n (y ∷ st) o = which (eqb y.number n) (once_without n st o.1)
   where
-    which : (b : Bool) → Once (without n st) → Once (cond b (without n st) (y ∷ without n st))
+    which : (b : Bool) → Once (without n st) → Once (cond (not b) (y ∷ without n st) (without n st))
     which true r = r
     which false r = (not_back y.number n st o.0, r)
 
@@ -42,7 +42,7 @@ without_none : (n : ℕ) (st : List Closing) → stands n st ≡ None → withou
 without_none n [] e = refl
 without_none n (y ∷ st) e =
     let f = none_of n y (stands n st) e in
-    cond-false (eqb y.number n) (without n st) (y ∷ without n st) (ne_eqb y.number n f.0) ∙ ap (λ x. y ∷ x) (without_none n st f.1)
+    ap (λ b. cond (not b) (y ∷ without n st) (without n st)) (ne_eqb y.number n f.0) ∙ ap (λ x. y ∷ x) (without_none n st f.1)
 
 -- under the number of a closing of the list one stands
 listed : (front back : List Closing) (c : Closing) → stands c.number (front ++ (c ∷ back)) ≡ None → ⊥
@@ -51,8 +51,8 @@ listed (y ∷ front) back c e = listed front back c (none_of c.number y (stands 
 
 -- the one that is withdrawn is taken out, and the others stay in order
 pub without_one : (front back : List Closing) (c : Closing) → Once (front ++ (c ∷ back)) → without c.number (front ++ (c ∷ back)) ≡ front ++ back
-without_one [] back c o = cond-true (eqb c.number c.number) (without c.number back) (c ∷ without c.number back) (eq-eqb c.number c.number refl) ∙ without_none c.number back o.0
+without_one [] back c o = ap (λ b. cond (not b) (c ∷ without c.number back) (without c.number back)) (eq-eqb c.number c.number refl) ∙ without_none c.number back o.0
 without_one (y ∷ front) back c o =
     let apart : y.number ≡ c.number → ⊥ = λ q. listed front back c (ap (λ x. stands x (front ++ (c ∷ back))) (sym q) ∙ o.0) in
-    cond-false (eqb y.number c.number) (without c.number (front ++ (c ∷ back))) (y ∷ without c.number (front ++ (c ∷ back))) (ne_eqb y.number c.number apart)
+    ap (λ b. cond (not b) (y ∷ without c.number (front ++ (c ∷ back))) (without c.number (front ++ (c ∷ back)))) (ne_eqb y.number c.number apart)
     ∙ ap (λ x. y ∷ x) (without_one front back c o.1)

@@ -1,5 +1,5 @@
 -- Which closing stands under a number, as closings come and go.
-use Rattle.std.proofs.Common.{◌≡◌, ℕ, ◌+◌, ◌≤◌, Bool, true, false, cond, eqb, ◌⊎◌, List, [], ◌∷◌, ◌++◌, length, is_some as option_is_some, Some, None, Option, sym, refl, ap, ◌∙◌, inl, inr, arith, length-append}
+use Rattle.std.proofs.Common.{◌≡◌, ℕ, ◌+◌, ◌≤◌, Bool, true, false, cond, not, eqb, ◌⊎◌, List, [], ◌∷◌, ◌++◌, length, is_some as option_is_some, Some, None, Option, sym, refl, ap, ◌∙◌, inl, inr, arith, length-append}
 use Rattle.std.proofs.lemmas.Bool.{cond-true, cond-false, eqb-true, eq-eqb, ne_eqb}
 use Rattle.closing.specs.Closings.{Closing, stands, without}
 
@@ -63,7 +63,7 @@ pub stands_without : (n m : ℕ) (st : List Closing) → (n ≡ m → ⊥) → s
 stands_without n m [] apart = refl
 stands_without n m (y ∷ st) apart = which (eqb y.number m) refl (stands_without n m st apart)
   where
-    which : (b : Bool) → eqb y.number m ≡ b → stands n (without m st) ≡ stands n st → stands n (cond b (without m st) (y ∷ without m st)) ≡ stands n (y ∷ st)
+    which : (b : Bool) → eqb y.number m ≡ b → stands n (without m st) ≡ stands n st → stands n (cond (not b) (y ∷ without m st) (without m st)) ≡ stands n (y ∷ st)
     which true e r = r ∙ sym (cond-false (eqb y.number n) (Some y) (stands n st) (ne_eqb y.number n (λ q. apart (sym q ∙ eqb-true y.number m e))))
     which false e r = ap (cond (eqb y.number n) (Some y)) r
 
@@ -71,7 +71,7 @@ pub stands_no_more : (n : ℕ) (st : List Closing) → stands n (without n st) �
 stands_no_more n [] = refl
 stands_no_more n (y ∷ st) = which (eqb y.number n) refl (stands_no_more n st)
   where
-    which : (b : Bool) → eqb y.number n ≡ b → stands n (without n st) ≡ None → stands n (cond b (without n st) (y ∷ without n st)) ≡ None
+    which : (b : Bool) → eqb y.number n ≡ b → stands n (without n st) ≡ None → stands n (cond (not b) (y ∷ without n st) (without n st)) ≡ None
     which true e r = r
     which false e r = cond-false (eqb y.number n) (Some y) (stands n (without n st)) e ∙ r
 
@@ -85,6 +85,6 @@ pub length_without : (n : ℕ) (st : List Closing) → length (without n st) ≤
 length_without n [] = omega arith
 length_without n (y ∷ st) = which (eqb y.number n) (length_without n st)
   where
-    which : (b : Bool) → length (without n st) ≤ length st → length (cond b (without n st) (y ∷ without n st)) ≤ length (y ∷ st)
+    which : (b : Bool) → length (without n st) ≤ length st → length (cond (not b) (y ∷ without n st) (without n st)) ≤ length (y ∷ st)
     which true h = omega arith
     which false h = omega arith
