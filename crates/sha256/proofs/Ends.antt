@@ -1,51 +1,34 @@
--- The bytes of a hash, and the end of a text.
-use Rattle.std.proofs.Common.{◌≡◌, ℕ, zero, suc, ◌+◌, ◌-◌, ◌*◌, ◌/◌, ◌%◌, ◌<◌, ◌≤◌, List, [], ◌∷◌, ◌++◌, length, get_or, take, drop, set, replicate, sym, refl, ap, ◌∙◌, append_assoc, add-one, arith, length-append, length-drop, take_all}
+-- The end of a text.
+use Rattle.std.proofs.Common.{◌≡◌, ℕ, zero, suc, ◌+◌, ◌-◌, ◌*◌, ◌/◌, ◌%◌, ◌<◌, ◌≤◌, List, [], ◌∷◌, ◌++◌, length, take, drop, fold, set, replicate, sym, refl, ap, ◌∙◌, arith, length-append, length-drop}
 use lib.ListN.{length-replicate}
-use lib.Seq.{set_at, take-append-add}
-use borrow.Rule.Slice.PartMut.{put_mid, post_of}
-use Rattle.std.proofs.lemmas.List.{take_more, take-replicate, drop-replicate, take-append-le, drop-append-le, drop-drop}
-use Rattle.std.proofs.lemmas.Slice.{take-put_mid}
+use borrow.Rule.Slice.PartMut.{put_mid}
+use Rattle.std.specs.Simd.{first_chunks}
+use Rattle.std.proofs.lemmas.List.{take-replicate, drop-replicate, take-append-le, drop-append-le, drop-drop, drop_all, append-nil}
 use Rattle.octets.specs.BigEndian.{be}
 use Rattle.sha256.specs.Sha256.{bytes, ending, padded, chaining, compress, sha256}
+use Rattle.sha256.proofs.Chunks.{blocks_on}
 
-bytes_append : (xs ys : List ℕ) → bytes (xs ++ ys) ≡ bytes xs ++ bytes ys
-unfolding bytes
-bytes_append [] ys = refl
-bytes_append (x ∷ xs) ys = ap (λ l. be 4 x ++ l) (bytes_append xs ys)
-
-pub bytes_more : (out h b : List ℕ) (i k : ℕ) → i < length h → i * 4 ≤ length out → b ≡ be 4 (get_or h i 0) → take (i * 4) out ≡ bytes (take i h) → take ((i + 1) * 4) (put_mid (i * 4) k out b) ≡ bytes (take (i + 1) h)
-unfolding bytes
-bytes_more out h b i k l m e f =
-    let n : length b ≡ 4 = ap length e in
-    let p : (i + 1) * 4 ≡ i * 4 + length b = omega arith in
-    take-put_mid (i * 4) k out b ((i + 1) * 4) p m ∙ ap (λ x. x ++ b) f ∙ ap (λ x. bytes (take i h) ++ x) e
-    ∙ sym (bytes_append (take i h) (get_or h i 0 ∷ [])) ∙ ap bytes (sym (take_more h i 0 l))
-
-pub last_is : (out rest b : List ℕ) (e k size : ℕ) → out ≡ replicate 128 0 → length rest + 9 ≤ e → e ≤ 128 → b ≡ be 8 (size * 8)
-    → take e (put_mid (e - 8) k (set (rest ++ post_of 0 (length rest - 0) out) (length rest) 128) b) ≡ rest ++ ending (e - 9 - length rest) size
+-- 0x80 and the length written over zero bytes
+pub last_is : (out rest e b : List ℕ) (size : ℕ) → out ≡ replicate (length out) 0 → length rest + 9 ≤ length out → e ≡ drop (length rest) out → b ≡ be 8 (size * 8)
+    → put_mid (length (set e 0 128) - 8) (length (set e 0 128) - (length (set e 0 128) - 8)) (set e 0 128) b ≡ ending (length out - 9 - length rest) size
 unfolding ending
-last_is out rest b e k size o l m q =
+last_is out rest e b size o l p q =
     let n = length rest in
-    let z = e - 9 - length rest in
-    let p : post_of 0 (n - 0) out ≡ 0 ∷ replicate (127 - n) 0 =
-    ap (λ x. drop (n - 0) x) o ∙ drop-replicate (n - 0) 128 0 ∙ ap (λ x. replicate x 0) (let a : 128 - (n - 0) ≡ suc (127 - n) = omega arith in a) in
-    let s : set (rest ++ post_of 0 (n - 0) out) n 128 ≡ rest ++ (128 ∷ replicate (127 - n) 0) =
-    ap (λ x. set (rest ++ x) n 128) p ∙ set_at rest 0 (replicate (127 - n) 0) 128 n refl in
-    let f : length (rest ++ (128 ∷ replicate (127 - n) 0)) ≡ 128 = simp (length-append, length-replicate) (omega arith) in
-    let g : length b ≡ 8 = ap length q in
-    let t : take (e - 8) (rest ++ (128 ∷ replicate (127 - n) 0)) ≡ rest ++ (128 ∷ replicate z 0) =
-    ap (λ x. take x (rest ++ (128 ∷ replicate (127 - n) 0))) (let a : e - 8 ≡ length rest + suc z = omega arith in a)
-    ∙ take-append-add rest (128 ∷ replicate (127 - n) 0) (suc z)
-    ∙ ap (λ x. rest ++ (128 ∷ x)) (take-replicate z (127 - n) 0 (omega arith)) in
-    ap (λ x. take e (put_mid (e - 8) k x b)) s
-    ∙ take-put_mid (e - 8) k (rest ++ (128 ∷ replicate (127 - n) 0)) b e (omega arith) (omega arith)
-    ∙ ap (λ x. x ++ b) t
-    ∙ ap (λ x. (rest ++ (128 ∷ replicate z 0)) ++ x) q
-    ∙ append_assoc rest (128 ∷ replicate z 0) (be 8 (size * 8))
-
-pub chaining_more : (s : List ℕ) (n : ℕ) → chaining (n + 1) s ≡ compress (chaining n s) (take 64 (drop (n * 64) s))
-unfolding chaining
-chaining_more s n = ap (λ m. chaining m s) (add-one n)
+    let z = length out - 9 - n in
+    let a : length out - n ≡ suc (z + 8) = omega arith in
+    let f : e ≡ 0 ∷ replicate (z + 8) 0 = p ∙ ap (drop n) o ∙ drop-replicate n (length out) 0 ∙ ap (λ x. replicate x 0) a in
+    let s : set e 0 128 ≡ 128 ∷ replicate (z + 8) 0 = ap (λ x. set x 0 128) f in
+    let x = 128 ∷ replicate (z + 8) 0 in
+    let k : length {A = ℕ} x ≡ z + 9 = simp length-replicate (omega arith) in
+    let at : length {A = ℕ} x - 8 ≡ suc z = omega arith in
+    let j = length {A = ℕ} x - suc z in
+    let front : take (suc z) x ≡ 128 ∷ replicate z 0 = ap (λ y. 128 ∷ y) (take-replicate z (z + 8) 0 (omega arith)) in
+    let none : drop j (drop (suc z) x) ≡ [] = drop-drop j (suc z) x ∙ drop_all (suc z + j) x (omega arith) in
+    ap (λ y. put_mid (length y - 8) (length y - (length y - 8)) y b) s
+    ∙ ap (λ i. put_mid i (length {A = ℕ} x - i) x b) at
+    ∙ ap (λ y. y ++ (b ++ drop j (drop (suc z) x))) front
+    ∙ ap (λ y. (128 ∷ replicate z 0) ++ (b ++ y)) none
+    ∙ ap (λ y. (128 ∷ replicate z 0) ++ y) (append-nil b ∙ q)
 
 chaining_front : (n : ℕ) (s t : List ℕ) → n * 64 ≤ length s → chaining n (s ++ t) ≡ chaining n s
 unfolding chaining
@@ -61,41 +44,21 @@ ending_length : (z n : ℕ) → length (ending z n) ≡ z + 9
 unfolding ending
 ending_length z n = simp (length-append, length-replicate) (omega arith)
 
--- a text whose end fits its last block
-pub ends_one : (s h b : List ℕ) → length s % 64 < 56 → h ≡ chaining (length s / 64) s → b ≡ drop (length s / 64 * 64) s ++ ending (64 - 9 - length (drop (length s / 64 * 64) s)) (length s) → bytes (compress h b) ≡ sha256 s
+-- a text whose whole blocks were taken, and what is left of it with its ending
+pub ends : (s rest b h : List ℕ) (z : ℕ) → rest ≡ drop (length s / 64 * 64) s → h ≡ chaining (length s / 64) s → b ≡ rest ++ ending z (length s)
+    → (length rest + z + 9) % 64 ≡ 0 → z < 64 → bytes (fold compress h (first_chunks 64 (length b / 64) b)) ≡ sha256 s
 unfolding sha256 padded
-ends_one s h b r p q =
+ends s rest b h z r p q m l =
     let n = length s / 64 in
-    let rest = drop (n * 64) s in
-    let z = (119 - length s % 64) % 64 in
     let t = ending z (length s) in
+    let lr : length rest ≡ length s % 64 = ap length r ∙ length-drop (n * 64) s ∙ (let a : length s - n * 64 ≡ length s % 64 = omega arith in a) in
+    let zs : z ≡ (119 - length s % 64) % 64 = omega arith in
     let lt : length t ≡ z + 9 = ending_length z (length s) in
-    let lr : length rest ≡ length s % 64 = simp length-drop (omega arith) in
-    let zs : 64 - 9 - length rest ≡ z = omega arith in
-    let lp : length (s ++ t) ≡ (n + 1) * 64 = simp length-append (omega arith) in
-    let m : length (s ++ t) / 64 ≡ n + 1 = omega arith in
-    let bb : b ≡ rest ++ t = q ∙ ap (λ x. rest ++ ending x (length s)) zs in
-    let lb : length (rest ++ t) ≡ 64 = simp length-append (omega arith) in
-    let d : take 64 (drop (n * 64) (s ++ t)) ≡ b = ap (take 64) (drop-append-le (n * 64) s t (omega arith)) ∙ take_all 64 (rest ++ t) (omega arith) ∙ sym bb in
-    let f : chaining n (s ++ t) ≡ h = chaining_front n s t (omega arith) ∙ sym p in
-    ap bytes (sym (ap (λ k. chaining k (s ++ t)) m ∙ chaining_more (s ++ t) n ∙ ap (λ x. compress x (take 64 (drop (n * 64) (s ++ t)))) f ∙ ap (compress h) d))
-
--- a text whose end takes a block more
-pub ends_two : (s h b : List ℕ) → 56 ≤ length s % 64 → h ≡ chaining (length s / 64) s → b ≡ drop (length s / 64 * 64) s ++ ending (128 - 9 - length (drop (length s / 64 * 64) s)) (length s) → bytes (compress (compress h (take 64 b)) (take 64 (drop 64 b))) ≡ sha256 s
-unfolding sha256 padded
-ends_two s h b r p q =
-    let n = length s / 64 in
-    let rest = drop (n * 64) s in
-    let z = (119 - length s % 64) % 64 in
-    let t = ending z (length s) in
-    let lt : length t ≡ z + 9 = ending_length z (length s) in
-    let lr : length rest ≡ length s % 64 = simp length-drop (omega arith) in
-    let zs : 128 - 9 - length rest ≡ z = omega arith in
-    let lp : length (s ++ t) ≡ (n + 2) * 64 = simp length-append (omega arith) in
-    let m : length (s ++ t) / 64 ≡ n + 1 + 1 = omega arith in
-    let bb : b ≡ rest ++ t = q ∙ ap (λ x. rest ++ ending x (length s)) zs in
-    let e : drop (n * 64) (s ++ t) ≡ b = drop-append-le (n * 64) s t (omega arith) ∙ sym bb in
-    let g : drop ((n + 1) * 64) (s ++ t) ≡ drop 64 b = ap (λ k. drop k (s ++ t)) (let a : (n + 1) * 64 ≡ n * 64 + 64 = omega arith in a) ∙ sym (drop-drop 64 (n * 64) (s ++ t)) ∙ ap (drop 64) e in
-    let f : chaining n (s ++ t) ≡ h = chaining_front n s t (omega arith) ∙ sym p in
-    let one : chaining (n + 1) (s ++ t) ≡ compress h (take 64 b) = chaining_more (s ++ t) n ∙ ap (λ x. compress x (take 64 (drop (n * 64) (s ++ t)))) f ∙ ap (λ x. compress h (take 64 x)) e in
-    ap bytes (sym (ap (λ k. chaining k (s ++ t)) m ∙ chaining_more (s ++ t) (n + 1) ∙ ap (λ x. compress x (take 64 (drop ((n + 1) * 64) (s ++ t)))) one ∙ ap (λ x. compress (compress h (take 64 b)) (take 64 x)) g))
+    let lb : length b ≡ length rest + (z + 9) = ap length q ∙ length-append rest t ∙ ap (λ x. length rest + x) lt in
+    let ls : length (s ++ t) ≡ length s + (z + 9) = length-append s t ∙ ap (λ x. length s + x) lt in
+    let j : length (s ++ t) / 64 ≡ n + length b / 64 = omega arith in
+    let f : h ≡ chaining n (s ++ t) = p ∙ sym (chaining_front n s t (omega arith)) in
+    let d : b ≡ drop (n * 64) (s ++ t) = q ∙ ap (λ x. x ++ t) r ∙ sym (drop-append-le (n * 64) s t (omega arith)) in
+    ap bytes (ap (λ x. fold compress x (first_chunks 64 (length b / 64) b)) f ∙ ap (λ x. fold compress (chaining n (s ++ t)) (first_chunks 64 (length b / 64) x)) d
+    ∙ blocks_on (s ++ t) (length b / 64) n (length (s ++ t) / 64) j
+    ∙ ap (λ x. chaining (length (s ++ ending x (length s)) / 64) (s ++ ending x (length s))) zs)

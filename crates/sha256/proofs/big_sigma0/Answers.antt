@@ -1,7 +1,0 @@
-use Rattle.std.proofs.Common.{rules}
-use Rattle.sha256.specs.Words.{Σ0}
-use Rattle.sha256.proofs.big_sigma0.Goals as goal
-
-pub returns : goal.returns
-unfolding Σ0
-returns c = search rules
