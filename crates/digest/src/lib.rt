@@ -18,6 +18,16 @@ use refusal::cases::Refusal;
 // The longest text that is digested.
 const MOST: usize = 65536;
 
+// The text, refused where it is longer.
+fn short_enough(text: &[u8]) -> Result<&[u8], Refusal>
+    ensures { Answers result (too_long text.now) (λ t. t.now ≡ text.now) }
+{
+    if text.len() > MOST {
+        return Err(Refusal::TextTooLong);
+    }
+    Ok(text)
+}
+
 pub trait Digest {
     ghost hash: { Self → Hash };
 
@@ -42,15 +52,9 @@ impl Digest for Rehearsal {
     }
 
     fn digest(&self, text: &[u8]) -> Result<[u8; 32], Refusal> {
-        if text.len() > MOST {
-            return Err(Refusal::TextTooLong);
-        }
-        let mut sum = 0u8;
-        for b in text {
-            sum = sum.wrapping_add(*b);
-        }
+        let text = short_enough(text)?;
         let mut out = [0u8; 32];
-        out[31] = sum;
+        out[31] = text.iter().fold(0, |sum, b| sum.wrapping_add(*b));
         Ok(out)
     }
 }
@@ -65,10 +69,7 @@ impl Digest for Sha256 {
     }
 
     fn digest(&self, text: &[u8]) -> Result<[u8; 32], Refusal> {
-        if text.len() > MOST {
-            return Err(Refusal::TextTooLong);
-        }
-        Ok(sha256::sha256(text))
+        Ok(sha256::sha256(short_enough(text)?))
     }
 }
 

@@ -52,7 +52,7 @@ impl BigEndian<8> for u64 {
 }
 
 // The number that the first N bytes write, where there are N.
-pub fn read<T: BigEndian<N>, const N: usize>(bytes: &[u8]) -> Option<T>
+pub fn read_be<T: BigEndian<N>, const N: usize>(bytes: &[u8]) -> Option<T>
     ensures { MatchOption result (length bytes.now < N) (λ x. T.number x ≡ value (take N bytes.now)) }
 {
     let (first, _) = bytes.split_first_chunk::<N>()?;

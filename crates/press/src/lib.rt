@@ -22,7 +22,7 @@ use amount::Amount;
 use client::fetch;
 use digest::Digest;
 use numbering::{Closing, Key, Leaf, Place};
-use octets::be4;
+use octets::BigEndian;
 use refusal::cases::Refusal;
 use sheet::head;
 use store::NodeStore;
@@ -167,7 +167,7 @@ pub fn write_file<A: Amount, D: Digest, N: NodeStore, L: NodeStore>(
         return Err(Refusal::BufferTooShort);
     }
     put_part(out, 0, &head::<A, D>(digest, closing, depth));
-    put_part(out, 7, &be4(leaf.0));
+    put_part(out, 7, &leaf.0.be_bytes());
     let own = Key {
         closing,
         place: Place(first + leaf.0),

@@ -17,7 +17,7 @@ use amount::Amount;
 use digest::Digest;
 use node::{read_node, write_node};
 use numbering::Closing;
-use octets::{be4, read4};
+use octets::{BigEndian, read_be};
 use refusal::cases::Refusal;
 use tree::bad_limits;
 use types::Sheet;
@@ -44,7 +44,7 @@ pub fn read<A: Amount, D: Digest>(digest: &D, bytes: &[u8]) -> Result<Sheet<A>, 
     if other_kinds::<A, D>(digest, *amount_kind, *digest_kind) {
         return Err(Refusal::OtherKind);
     }
-    let Some(number) = read4(rest) else {
+    let Some(number) = read_be(rest) else {
         return Err(Refusal::SheetLength);
     };
     if bad_limits(Closing(number), *depth as u32) {
@@ -64,7 +64,7 @@ pub fn read<A: Amount, D: Digest>(digest: &D, bytes: &[u8]) -> Result<Sheet<A>, 
 pub fn head<A: Amount, D: Digest>(digest: &D, closing: Closing, depth: u8) -> [u8; 7]
     ensures { result ≡ head_bytes A.kind (D.hash digest.now) closing.0 depth }
 {
-    let [a, b, c, d] = be4(closing.0);
+    let [a, b, c, d] = closing.0.be_bytes();
     [A::number(), digest.number(), depth, a, b, c, d]
 }
 

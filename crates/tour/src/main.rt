@@ -15,7 +15,7 @@ use hexadecimal::Hex;
 use node::types::{Line, Node};
 use node::{inner, leaf, padding, read_node, write_node};
 use numbering::{Closing, Key, Leaf, Place};
-use octets::{be4, be8};
+use octets::BigEndian;
 use refusal::cases::Refusal;
 use sheet::head;
 use sheet::types::Sheet;
@@ -315,10 +315,10 @@ fn file_front(
         ledger.closing,
         u8::try_from(ledger.depth)?,
     ))?;
-    file.extend_from_slice(&be4(n))?;
+    file.extend_from_slice(&n.be_bytes())?;
     file.extend_from_slice(&line.customer)?;
     file.extend_from_slice(&line.salt)?;
-    file.extend_from_slice(&be8(line.balance.cents))?;
+    file.extend_from_slice(&line.balance.cents.be_bytes())?;
     Ok(file)
 }
 

@@ -30,7 +30,7 @@ use file::types::{Field, Found};
 use node::types::{Line, Node};
 use node::{inner, leaf, read_node, write_node};
 use numbering::{Closing, Place};
-use octets::{read4, same_bytes};
+use octets::{read_be, same_bytes};
 use refusal::cases::Refusal;
 use sheet::head;
 use sheet::types::Sheet;
@@ -258,7 +258,7 @@ fn check_shape<A: Amount, D: Digest>(
     if !same_bytes(&file[0..7], &head) {
         return Err(Refusal::OtherSheet);
     }
-    let Some(leaf_number) = read4(&file[7..file.len()]) else {
+    let Some(leaf_number) = read_be(&file[7..file.len()]) else {
         return Err(Refusal::FileLength);
     };
     if leaf_number >= leaf_count(sheet.depth as u32) {

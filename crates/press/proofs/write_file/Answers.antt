@@ -39,7 +39,7 @@ returns g c = record {
       let all : c.args.depth * (32 + c.width-width.result) ≡ x.depth * (32 + k.width) = ap (λ y. c.args.depth * (32 + y)) c.width-width.ensures ∙ ap (λ y. y * (32 + k.width)) (sym depth) in
       let depth_all : x.depth * (32 + k.width) ≡ c.args.depth * (32 + k.width) = ap (λ y. y * (32 + k.width)) depth in
       let first = c.put_part.ensures.is [] out refl refl ∙ ap (λ y. written y out) c.head.ensures in
-      let second = c.put_part-2.ensures.is top out refl first ∙ ap (λ y. written (top ++ y) out) c.be4.ensures in (
+      let second = c.put_part-2.ensures.is top out refl first ∙ ap (λ y. written (top ++ y) out) c.be_bytes.ensures in (
         enough (length out) (file_length k.width c.args.depth) (omega (arith, c.if-out-end.false, c.width-width.ensures, all, depth_all)),
         (
           omega (arith, file_said_long laws hashes x t.ledger leaf l is, c.width-width.ensures, all),

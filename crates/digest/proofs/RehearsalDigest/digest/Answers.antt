@@ -1,21 +1,16 @@
-use Rattle.std.proofs.Common.{◌≡◌, ℕ, ◌+◌, ◌%◌, List, [], ◌∷◌, ◌++◌, get_or, take, replicate, ap, ◌∙◌, arith, take_all, rules}
-use Rattle.std.proofs.lemmas.List.{take_more}
+use Rattle.std.proofs.Common.{◌≡◌, ℕ, ◌+◌, ◌%◌, ◌<◌, List, [], ◌∷◌, ◌++◌, replicate, fold, ap, ◌∙◌, arith, rules}
 use Rattle.digest.specs.Digests.{sum, rehearsed}
 use Rattle.digest.proofs.RehearsalDigest.digest.Goals as goal
 
-sum_push : (xs : List ℕ) (y : ℕ) → sum (xs ++ (y ∷ [])) ≡ sum xs + y
-sum_push [] y = omega arith
-sum_push (x ∷ xs) y = let r = sum_push xs y in omega arith
-
-pub loop-b-preserved : goal.loop-b-preserved
-loop-b-preserved c =
-    let s = c.args.text.now in
-    let i = c.loop-b.b-index in
-    let e = ap sum (take_more s i 0 c.loop-b-test.true) ∙ sum_push (take i s) (get_or s i 0) in
-    (omega arith, omega (arith, e, c.loop-b.invariant.1))
+fold_is : (xs : List ℕ) (a : ℕ) → a < 256 → fold (λ s x. (s + x) % 256) a xs ≡ (a + sum xs) % 256
+fold_is [] a h = omega arith
+fold_is (x ∷ xs) a h = let r = fold_is xs ((a + x) % 256) (omega arith) in omega arith
 
 pub returns : goal.returns
 unfolding rehearsed
 returns c =
-    let s = c.args.text.now in
-    (search rules, ap (λ x. replicate 31 0 ++ (x ∷ [])) (c.loop-b.invariant.1 ∙ ap (λ l. sum l % 256) (take_all c.loop-b.b-index s c.loop-b-test.false)))
+    let s = c.in_ok-text.text.now in
+    let e : c.fold.result ≡ fold (λ s x. (s + x) % 256) 0 s = search rules in
+    let g = e ∙ fold_is s 0 (omega arith) in
+    let f : c.fold.result ≡ sum s % 256 = omega (arith, g) in
+    (c.in_ok-text.ensures.0, ap (λ x. replicate 31 0 ++ (x ∷ [])) (f ∙ ap (λ l. sum l % 256) c.in_ok-text.ensures.1))
