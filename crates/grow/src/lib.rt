@@ -26,8 +26,6 @@ use tree::leaf_count;
 
 // Puts a node at a place, where the store does not refuse it; otherwise nothing changes.
 pub fn put_node<A: Amount, N: NodeStore>(nodes: &mut N, key: Key, node: &Node<A>)
-    requires { N.ok nodes.old }
-    ensures keeps { N.ok nodes.new }
     ensures is { put_refusal (N.meaning nodes.old) key.closing.0 key.place.0 (32 + A.kind.width) ≡ None
         → Put (N.meaning nodes.old) (N.meaning nodes.new) key.closing.0 key.place.0 (node_bytes A.kind (node_of A.meaning node.now)) }
     ensures refused { (e : RefusalSaid) → put_refusal (N.meaning nodes.old) key.closing.0 key.place.0 (32 + A.kind.width) ≡ Some e
@@ -42,8 +40,6 @@ pub fn put_node<A: Amount, N: NodeStore>(nodes: &mut N, key: Key, node: &Node<A>
 
 // The node at a place, where there is one.
 fn get_node<A: Amount, N: NodeStore>(nodes: &mut N, key: Key) -> Option<Node<A>>
-    requires { N.ok nodes.old }
-    ensures keeps { N.ok nodes.new }
     ensures same { N.meaning nodes.new ≡ N.meaning nodes.old }
     ensures found { (x : NodeSaid) → Whole A.kind x
         → fetched (N.meaning nodes.old) key.closing.0 key.place.0 (32 + A.kind.width) ≡ Some (node_bytes A.kind x)
@@ -67,10 +63,8 @@ fn raise<A: Amount, D: Digest, N: NodeStore>(
     closing: Closing,
     place: u32,
 )
-    requires ok { N.ok nodes.old }
-    requires low { place < 2 ^ 20 }
-    ensures keeps { N.ok nodes.new }
-    ensures is { (x y : NodeSaid) → Whole A.kind x → Whole A.kind y
+    requires { place < 2 ^ 20 }
+    ensures { (x y : NodeSaid) → Whole A.kind x → Whole A.kind y
         → fetched (N.meaning nodes.old) closing.0 (2 * place) (32 + A.kind.width) ≡ Some (node_bytes A.kind x)
         → fetched (N.meaning nodes.old) closing.0 (2 * place + 1) (32 + A.kind.width) ≡ Some (node_bytes A.kind y)
         → T (A.kind.writable (A.kind.join x.amount y.amount))
@@ -108,10 +102,8 @@ fn pad<A: Amount, D: Digest, N: NodeStore>(
     depth: u32,
     lines: u32,
 )
-    requires ok { N.ok nodes.old }
-    requires deep { depth ≤ 20 }
-    ensures keeps { N.ok nodes.new }
-    ensures is { (m : Meaning) (c : ClosingSaid) → Ripe A.kind (D.hash digest.now) m c → IsClosing c closing.0 depth lines
+    requires { depth ≤ 20 }
+    ensures { (m : Meaning) (c : ClosingSaid) → Ripe A.kind (D.hash digest.now) m c → IsClosing c closing.0 depth lines
         → Risen A.kind (D.hash digest.now) m (N.meaning nodes.old) c 0 lines
         → Risen A.kind (D.hash digest.now) m (N.meaning nodes.new) c 0 (2 ^ depth) }
 {
@@ -134,11 +126,9 @@ fn raise_level<A: Amount, D: Digest, N: NodeStore>(
     depth: u32,
     height: u32,
 )
-    requires ok { N.ok nodes.old }
     requires deep { depth ≤ 20 }
     requires high { (1 ≤ height) × (height ≤ depth) }
-    ensures keeps { N.ok nodes.new }
-    ensures is { (m : Meaning) (c : ClosingSaid) → Ripe A.kind (D.hash digest.now) m c → c.number ≡ closing.0 → c.depth ≡ depth
+    ensures { (m : Meaning) (c : ClosingSaid) → Ripe A.kind (D.hash digest.now) m c → c.number ≡ closing.0 → c.depth ≡ depth
         → Risen A.kind (D.hash digest.now) m (N.meaning nodes.old) c height 0
         → Risen A.kind (D.hash digest.now) m (N.meaning nodes.new) c height (2 ^ (depth - height)) }
 {
@@ -156,9 +146,7 @@ pub fn grow<A: Amount, D: Digest, N: NodeStore>(
     depth: u32,
     lines: u32,
 )
-    requires { N.ok nodes.old }
-    ensures keeps { N.ok nodes.new }
-    ensures is { (c : ClosingSaid) → Ripe A.kind (D.hash digest.now) (N.meaning nodes.old) c → IsClosing c closing.0 depth lines
+    ensures { (c : ClosingSaid) → Ripe A.kind (D.hash digest.now) (N.meaning nodes.old) c → IsClosing c closing.0 depth lines
         → Grown A.kind (D.hash digest.now) (N.meaning nodes.old) (N.meaning nodes.new) c }
 {
     if depth > 20 {

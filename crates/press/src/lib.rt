@@ -39,9 +39,7 @@ fn put_part(out: &mut [u8], at: usize, part: &[u8])
 
 // Puts a record behind what is written already.
 fn fetch_part<S: NodeStore>(store: &mut S, key: Key, out: &mut [u8], at: usize, width: usize)
-    requires ok { S.ok store.old }
     requires room { at + width ≤ length out.old }
-    ensures keeps { S.ok store.new }
     ensures same { S.meaning store.new ≡ S.meaning store.old }
     ensures long { length out.new ≡ length out.old }
     ensures is { (said o b : List ℕ) → length said ≡ at → out.old ≡ written said o
@@ -69,11 +67,9 @@ fn put_steps<A: Amount, N: NodeStore>(
     out: &mut [u8],
     at: usize,
 )
-    requires ok { N.ok nodes.old }
     requires deep { depth ≤ 20 }
     requires low { leaf < 2 ^ depth }
     requires room { at + depth * (32 + A.kind.width) ≤ length out.old }
-    ensures keeps { N.ok nodes.new }
     ensures same { N.meaning nodes.new ≡ N.meaning nodes.old }
     ensures is { (h : Hash) (c : ClosingSaid) (said o : List ℕ) → HashLaws h → TreeStands A.kind h (N.meaning nodes.old) c → c.number ≡ closing.0 → c.depth ≡ depth
         → length said ≡ at → out.old ≡ written said o
@@ -97,8 +93,6 @@ pub fn write_sheet<A: Amount, D: Digest, N: NodeStore>(
     depth: u8,
     out: &mut [u8],
 ) -> Result<usize, Refusal>
-    requires { N.ok nodes.old }
-    ensures keeps { N.ok nodes.new }
     ensures same { N.meaning nodes.new ≡ N.meaning nodes.old }
     ensures answers { (c : ClosingSaid) → TreeStands A.kind (D.hash digest.now) (N.meaning nodes.old) c → c.number ≡ closing.0 → c.depth ≡ depth
         → Answers result (first ((nat_lt (length out.old) (39 + A.kind.width) ⇒ BufferTooShort) ∷ []))
@@ -121,9 +115,7 @@ pub fn write_sheet<A: Amount, D: Digest, N: NodeStore>(
 // Puts the customer number, the salt and the balance of a leaf behind what is written already: its text without the first
 // five bytes.
 fn put_line<A: Amount, L: NodeStore>(leaves: &mut L, key: Key, out: &mut [u8], at: usize)
-    requires ok { L.ok leaves.old }
     requires room { at + (32 + A.kind.width) ≤ length out.old }
-    ensures keeps { L.ok leaves.new }
     ensures same { L.meaning leaves.new ≡ L.meaning leaves.old }
     ensures long { length out.new ≡ length out.old }
     ensures is { (said o b : List ℕ) → length said ≡ at → out.old ≡ written said o
@@ -147,8 +139,6 @@ pub fn write_file<A: Amount, D: Digest, N: NodeStore, L: NodeStore>(
     leaf: Leaf,
     out: &mut [u8],
 ) -> Result<usize, Refusal>
-    requires { (N.ok nodes.old) × (L.ok leaves.old) }
-    ensures keeps { N.ok nodes.new × L.ok leaves.new }
     ensures same { (N.meaning nodes.new ≡ N.meaning nodes.old) × (L.meaning leaves.new ≡ L.meaning leaves.old) }
     ensures answers { (c : ClosingSaid) (l : LineSaid) → TreeStands A.kind (D.hash digest.now) (N.meaning nodes.old) c
         → TextsStand A.kind (D.hash digest.now) (L.meaning leaves.old) c → c.number ≡ closing.0 → c.depth ≡ depth → slice_get c.lines leaf.0 ≡ Some l

@@ -10,7 +10,6 @@ returns-in-Ok g c =
     let k = g.A.Amount.kind in
     let m : Meaning = g.N.NodeStore.meaning c.args.nodes.now in
     record {
-      keeps = c.fetch.ensures.keeps;
       same = c.fetch.ensures.same;
       found = λ x whole f.
           let e = fetched_is m c.args.key.closing.0 c.args.key.place.0 _ (32 + k.width) _ _ _ c.fetch.ensures.filled (search rules) f in
@@ -22,7 +21,6 @@ returns-in-Err g c =
     let k = g.A.Amount.kind in
     let m : Meaning = g.N.NodeStore.meaning c.args.nodes.now in
     record {
-      keeps = c.fetch.ensures.keeps;
       same = c.fetch.ensures.same;
       found = λ x whole f.
           let e = fetched_is m c.args.key.closing.0 c.args.key.place.0 _ (32 + k.width) _ _ _ c.fetch.ensures.filled (search rules) f in

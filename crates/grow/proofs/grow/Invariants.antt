@@ -8,8 +8,7 @@ abbrev pub invariant-loop-height : goal.invariant-loop-height
 invariant-loop-height g l =
     let k = g.A.Amount.kind in
     let h = g.D.Digest.hash l.digest in
-    g.N.NodeStore.ok l.nodes
-    × (1 ≤ l.height)
+    (1 ≤ l.height)
     × ((m : Meaning) (c : Closing) → Ripe k h m c → IsClosing c l.closing.0 l.depth l.lines
     → Risen k h m (g.N.NodeStore.meaning l.initial.nodes) c 0 (2 ^ l.depth)
     → Risen k h m (g.N.NodeStore.meaning l.nodes) c (l.height - 1) (2 ^ (l.depth - (l.height - 1))))

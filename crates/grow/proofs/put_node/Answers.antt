@@ -18,7 +18,6 @@ returns g c =
     let e : take c.in-Ok.n c.write_node.new.out ≡ said = ap (take c.in-Ok.n) w.2 ∙ front said _ c.in-Ok.n w.1 in
     let long = ap (put_refusal m x p) (ap length e ∙ sym w.1 ∙ w.0) in
     record {
-      keeps = c.keep.ensures.keeps;
       is = λ none. subst (Put m n x p) e (c.keep.ensures.is (long ∙ none));
       refused = λ r some. c.keep.ensures.refused r (long ∙ some);
     }

@@ -8,6 +8,5 @@ abbrev pub invariant-loop-n : goal.invariant-loop-n
 invariant-loop-n g l =
     let k = g.A.Amount.kind in
     let h = g.D.Digest.hash l.digest in
-    g.N.NodeStore.ok l.nodes
-    × ((m : Meaning) (c : Closing) → Ripe k h m c → c.number ≡ l.closing.0 → c.depth ≡ l.depth → Risen k h m (g.N.NodeStore.meaning l.initial.nodes) c l.height 0
+    ((m : Meaning) (c : Closing) → Ripe k h m c → c.number ≡ l.closing.0 → c.depth ≡ l.depth → Risen k h m (g.N.NodeStore.meaning l.initial.nodes) c l.height 0
     → Risen k h m (g.N.NodeStore.meaning l.nodes) c l.height l.n)
