@@ -39,7 +39,7 @@ fn put_part(out: &mut [u8], at: usize, part: &[u8])
 
 // Puts a record behind what is written already.
 fn fetch_part<S: NodeStore>(store: &mut S, key: Key, out: &mut [u8], at: usize, width: usize)
-    requires room { at + width ≤ length out.old }
+    requires { at + width ≤ length out.old }
     ensures same { S.meaning store.new ≡ S.meaning store.old }
     ensures long { length out.new ≡ length out.old }
     ensures is { (said o b : List ℕ) → length said ≡ at → out.old ≡ written said o
@@ -115,7 +115,7 @@ pub fn write_sheet<A: Amount, D: Digest, N: NodeStore>(
 // Puts the customer number, the salt and the balance of a leaf behind what is written already: its text without the first
 // five bytes.
 fn put_line<A: Amount, L: NodeStore>(leaves: &mut L, key: Key, out: &mut [u8], at: usize)
-    requires room { at + (32 + A.kind.width) ≤ length out.old }
+    requires { at + (32 + A.kind.width) ≤ length out.old }
     ensures same { L.meaning leaves.new ≡ L.meaning leaves.old }
     ensures long { length out.new ≡ length out.old }
     ensures is { (said o b : List ℕ) → length said ≡ at → out.old ≡ written said o

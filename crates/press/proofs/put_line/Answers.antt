@@ -7,7 +7,6 @@ use Rattle.press.proofs.put_line.Goals as goal
 
 pub returns : goal.returns
 returns g c = record {
-  keeps = c.fetch.ensures.keeps;
   same = c.fetch.ensures.same;
   long = c.put_part.ensures.long;
   is = λ said o b l e f w.

@@ -10,8 +10,7 @@ use Rattle.press.proofs.put_steps.Given as goal
 abbrev pub invariant-loop-j : goal.invariant-loop-j
 invariant-loop-j g l =
     let k = g.A.Amount.kind in
-    g.N.NodeStore.ok l.nodes
-    × (g.N.NodeStore.meaning l.nodes ≡ g.N.NodeStore.meaning l.initial.nodes)
+    (g.N.NodeStore.meaning l.nodes ≡ g.N.NodeStore.meaning l.initial.nodes)
     × (length l.out ≡ length l.initial.out)
     × ((h : Hash) (c : Closing) (said o : List ℕ) → HashLaws h → TreeStands k h (g.N.NodeStore.meaning l.initial.nodes) c → c.number ≡ l.closing.0 → c.depth ≡ l.depth
     → length said ≡ l.at → l.initial.out ≡ written said o

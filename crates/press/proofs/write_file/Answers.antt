@@ -12,7 +12,6 @@ use Rattle.press.proofs.write_file.Goals as goal
 -- a line's leaf is one of the tree
 pub returns-then-leaf-first : goal.returns-then-leaf-first
 returns-then-leaf-first g c = record {
-  keeps = c.requires;
   same = (refl, refl);
   answers = λ x l t u number depth is.
       let deep = shallow x.depth x.number t.ledger.limits_good in
@@ -24,7 +23,6 @@ returns-then-leaf-first g c = record {
 
 pub returns : goal.returns
 returns g c = record {
-  keeps = (c.put_steps.ensures.keeps, c.put_line.ensures.keeps);
   same = (c.put_steps.ensures.same, c.put_line.ensures.same);
   answers = λ x l t u number depth is.
       let k = g.A.Amount.kind in

@@ -6,7 +6,6 @@ use Rattle.press.proofs.write_sheet.Goals as goal
 
 pub returns : goal.returns
 returns g c = record {
-  keeps = c.fetch_part.ensures.keeps;
   same = c.fetch_part.ensures.same;
   answers = λ x t number depth.
       let laws = g.met.A.Amount.lawful in
