@@ -51,10 +51,10 @@ module _ {k : Kind} {h : Hash} {nodes leaves : Meaning} {roll : List Stand} {s :
     pub open_spans : Spans n
     open_spans = let p = opening_clear keeps.represents n depth e in (held_open nodes n p.0, held_open leaves n p.1)
 
-    pub keeps_opened : {nodes' leaves' : Meaning} → Laws k → Cleared nodes nodes' n → Cleared leaves leaves' n → (total : List ℕ) → total ≡ k.zero
-        → KeepsOpen k h nodes' leaves' roll n depth 0 total (next k s (Open n depth))
-    keeps_opened {nodes'} {leaves'} laws a b total z = record {
-      keeps = record { represents = subst (Represents k h nodes' leaves') (sym open_done.1) (represents_opened keeps.represents n a b laws depth e); roll_is = keeps.roll_is ∙ ap (λ t. map brief t.standing) (sym open_done.1) };
+    pub keeps_opened : {nodes' leaves' : Meaning} {roll' : List Stand} → Laws k → Cleared nodes nodes' n → Cleared leaves leaves' n → roll' ≡ roll → (total : List ℕ) → total ≡ k.zero
+        → KeepsOpen k h nodes' leaves' roll' n depth 0 total (next k s (Open n depth))
+    keeps_opened {nodes'} {leaves'} laws a b r total z = record {
+      keeps = record { represents = subst (Represents k h nodes' leaves') (sym open_done.1) (represents_opened keeps.represents n a b laws depth e); roll_is = r ∙ keeps.roll_is ∙ ap (λ t. map brief t.standing) (sym open_done.1) };
       ledger = no_lines n depth;
       ledger_is = ap (λ t. t.ledger) open_done.1;
       number_is = refl;

@@ -2,7 +2,7 @@
 //!
 //! States are types and move: opening gives an open `Ledger`, closing or abandoning it gives the `Custodian` back, and a ledger
 //! cannot be let go. Every call's contract says its answer, and the state afterwards, by the definitions in `closing`:
-//! `Keeps` and `KeepsOpen` tie the custodian's fields and the meanings of its stores to that state. How stores lie in
+//! `Holds` and `HoldsOpen` tie the custodian's fields and the meanings of its stores to that state. How stores lie in
 //! memory is not known here; a change of a text or a layout is made below.
 #![tactic(auto)]
 
@@ -18,7 +18,8 @@ ghost use Rattle.closing.specs.Closings.{State, new as new_state, stands as stan
 ghost use Rattle.client.specs.Suits.{suits as suits_tree};
 ghost use Rattle.closing.specs.Standings.{StandingsHold};
 ghost use Rattle.closing.specs.Accounts.{LinesAccount};
-ghost use Rattle.custodian.specs.Keeping.{told, Keeps, KeepsOpen};
+ghost use Rattle.custodian.specs.Keeping.{told};
+ghost use Rattle.custodian.specs.States.{Holds, HoldsOpen, SameStores, ClearedBoth};
 
 use amount::Amount;
 use client::{forget, keep, suits};
@@ -61,7 +62,6 @@ pub struct Declined<A, D, N, L> {
 
 // Whether a store can take so many records under a closing, once that is cleared.
 fn has_room<S: NodeStore>(store: &S, closing: Closing, need: u32) -> bool
-    requires { S.ok store.now }
     ensures { in_span (S.meaning store.now) closing.0 ≡ true → result ≡ not (nat_lt ((S.meaning store.now).room + held (S.meaning store.now) closing.0) need) }
 {
     let held = store.held(closing).unwrap_or(0);
@@ -74,7 +74,7 @@ impl<A: Amount, D: Digest, N: NodeStore, L: NodeStore> Custodian<A, D, N, L> {
     // lines that were entered between its opening and its closing.
     pub fn new(digest: D, nodes: N, leaves: L) -> Self
         ensures parts { (result.digest ≡ digest) × (result.nodes ≡ nodes) × (result.leaves ≡ leaves) }
-        ensures is { Keeps A.kind (D.hash digest) (N.meaning nodes) (L.meaning leaves) (take result.roll.len result.roll.rows) (new_state (N.meaning nodes) (L.meaning leaves)) }
+        ensures is { Holds A.kind D.hash N.meaning L.meaning result (new_state (N.meaning nodes) (L.meaning leaves)) }
         ensures standings { StandingsHold }
         ensures lines { LinesAccount }
     {
@@ -103,21 +103,20 @@ impl<A: Amount, D: Digest, N: NodeStore, L: NodeStore> Custodian<A, D, N, L> {
 
     // Whether a closing stands.
     fn stands(&self, closing: Closing) -> bool
-        ensures { (s : State) → Keeps A.kind (D.hash self.now.digest) (N.meaning self.now.nodes) (L.meaning self.now.leaves) (take self.now.roll.len self.now.roll.rows) s → result ≡ is_some (stands_under closing.0 s.standing) }
+        ensures { (s : State) → Holds A.kind D.hash N.meaning L.meaning self.now s → result ≡ is_some (stands_under closing.0 s.standing) }
     {
         self.roll.find(closing).is_some()
     }
 
     // Whether eight closings stand.
     fn is_full(&self) -> bool
-        ensures { (s : State) → Keeps A.kind (D.hash self.now.digest) (N.meaning self.now.nodes) (L.meaning self.now.leaves) (take self.now.roll.len self.now.roll.rows) s → result ≡ nat_le 8 (length s.standing) }
+        ensures { (s : State) → Holds A.kind D.hash N.meaning L.meaning self.now s → result ≡ nat_le 8 (length s.standing) }
     {
         self.roll.len() >= 8
     }
 
     // Whether both stores suit a closing at a depth.
     fn suit(&self, closing: Closing, depth: u32) -> bool
-        requires { (N.ok self.now.nodes) × (L.ok self.now.leaves) }
         ensures { result ≡ suits_tree (N.meaning self.now.nodes) (32 + A.kind.width) closing.0 depth && suits_tree (L.meaning self.now.leaves) (37 + A.kind.width) closing.0 depth }
     {
         let width = A::width();
@@ -127,8 +126,7 @@ impl<A: Amount, D: Digest, N: NodeStore, L: NodeStore> Custodian<A, D, N, L> {
 
     // Whether either store has too little room for a closing at a depth.
     fn no_room(&self, closing: Closing, depth: u32) -> bool
-        requires ok { (N.ok self.now.nodes) × (L.ok self.now.leaves) }
-        requires deep { depth ≤ 20 }
+        requires { depth ≤ 20 }
         ensures { in_span (N.meaning self.now.nodes) closing.0 ≡ true → in_span (L.meaning self.now.leaves) closing.0 ≡ true
             → result ≡ (nat_lt ((N.meaning self.now.nodes).room + held (N.meaning self.now.nodes) closing.0) (2 ^ (depth + 1) - 1)
             || nat_lt ((L.meaning self.now.leaves).room + held (L.meaning self.now.leaves) closing.0) (2 ^ depth)) }
@@ -139,9 +137,8 @@ impl<A: Amount, D: Digest, N: NodeStore, L: NodeStore> Custodian<A, D, N, L> {
 
     // Whether a closing can be opened, by the table of refusals.
     fn admit(&self, closing: Closing, depth: u32) -> Result<(), Refusal>
-        requires { (N.ok self.now.nodes) × (L.ok self.now.leaves) }
         ensures deep { OnOk result (depth ≤ 20) }
-        ensures table { (s : State) → Keeps A.kind (D.hash self.now.digest) (N.meaning self.now.nodes) (L.meaning self.now.leaves) (take self.now.roll.len self.now.roll.rows) s
+        ensures table { (s : State) → Holds A.kind D.hash N.meaning L.meaning self.now s
             → Answers result (open_refusal A.kind s closing.0 depth) (λ _. Unit {0}) }
     {
         if bad_limits(closing, depth) {
@@ -169,37 +166,22 @@ impl<A: Amount, D: Digest, N: NodeStore, L: NodeStore> Custodian<A, D, N, L> {
         closing: Closing,
         depth: u32,
     ) -> Result<Ledger<A, D, N, L>, Declined<A, D, N, L>>
-        requires { (N.ok self.nodes) × (L.ok self.leaves) }
-        ensures keeps { MatchResult result (λ l. (N.ok l.of.nodes × L.ok l.of.leaves)) (λ d. (N.ok d.back.nodes × L.ok d.back.leaves)) }
         ensures digest { MatchResult result (λ l. l.of.digest ≡ self.digest) (λ d. d.back.digest ≡ self.digest) }
-        ensures refused { IfErr result (λ d. (N.meaning d.back.nodes ≡ N.meaning self.nodes) × (L.meaning d.back.leaves ≡ L.meaning self.leaves)) }
-        ensures answers { (s : State) → Keeps A.kind (D.hash self.digest) (N.meaning self.nodes) (L.meaning self.leaves) (take self.roll.len self.roll.rows) s → s.ledger ≡ None
+        ensures refused { IfErr result (λ d. SameStores N.meaning L.meaning self d.back) }
+        ensures answers { (s : State) → Holds A.kind D.hash N.meaning L.meaning self s → s.ledger ≡ None
             → told (λ _. Opened) (λ d. d.why) result ≡ answer A.kind (D.hash self.digest) s (Open closing.0 depth) }
-        ensures opened { (s : State) → Keeps A.kind (D.hash self.digest) (N.meaning self.nodes) (L.meaning self.leaves) (take self.roll.len self.roll.rows) s → s.ledger ≡ None
-            → MatchResult result (λ l. Cleared (N.meaning self.nodes) (N.meaning l.of.nodes) closing.0 × Cleared (L.meaning self.leaves) (L.meaning l.of.leaves) closing.0
-            × KeepsOpen A.kind (D.hash l.of.digest) (N.meaning l.of.nodes) (L.meaning l.of.leaves) (take l.of.roll.len l.of.roll.rows) l.closing.0 l.depth l.lines (A.meaning l.total) (next A.kind s (Open closing.0 depth)))
-            (λ d. Keeps A.kind (D.hash d.back.digest) (N.meaning d.back.nodes) (L.meaning d.back.leaves) (take d.back.roll.len d.back.roll.rows) (next A.kind s (Open closing.0 depth))) }
+        ensures opened { (s : State) → Holds A.kind D.hash N.meaning L.meaning self s → s.ledger ≡ None
+            → MatchResult result (λ l. ClearedBoth N.meaning L.meaning self l.of closing.0
+            × HoldsOpen A.kind A.meaning D.hash N.meaning L.meaning l (next A.kind s (Open closing.0 depth)))
+            (λ d. Holds A.kind D.hash N.meaning L.meaning d.back (next A.kind s (Open closing.0 depth))) }
     {
         if let Err(why) = self.admit(closing, depth) {
             return Err(Declined { back: self, why });
         }
-        let Custodian {
-            digest,
-            mut nodes,
-            mut leaves,
-            roll,
-            kind,
-        } = self;
-        forget(&mut nodes, closing);
-        forget(&mut leaves, closing);
+        let mut custodian = self;
+        custodian.forget_both(closing);
         Ok(Ledger {
-            of: Custodian {
-                digest,
-                nodes,
-                leaves,
-                roll,
-                kind,
-            },
+            of: custodian,
             closing,
             depth: depth as u8,
             lines: 0,
@@ -209,8 +191,6 @@ impl<A: Amount, D: Digest, N: NodeStore, L: NodeStore> Custodian<A, D, N, L> {
 
     // Forgets a closing in both stores.
     fn forget_both(&mut self, closing: Closing)
-        requires { (N.ok self.old.nodes) × (L.ok self.old.leaves) }
-        ensures keeps { N.ok self.new.nodes × L.ok self.new.leaves }
         ensures rest { (self.new.digest ≡ self.old.digest) × (self.new.roll ≡ self.old.roll) }
         ensures nodes { in_span (N.meaning self.old.nodes) closing.0 ≡ true → Cleared (N.meaning self.old.nodes) (N.meaning self.new.nodes) closing.0 }
         ensures leaves { in_span (L.meaning self.old.leaves) closing.0 ≡ true → Cleared (L.meaning self.old.leaves) (L.meaning self.new.leaves) closing.0 }
@@ -222,14 +202,12 @@ impl<A: Amount, D: Digest, N: NodeStore, L: NodeStore> Custodian<A, D, N, L> {
     // Writes the sheet of a closing that stands, and answers its length. What is written fills its own length and leaves the
     // rest of the buffer; a refusal leaves all of it.
     pub fn sheet(&mut self, closing: Closing, out: &mut [u8]) -> Result<usize, Refusal>
-        requires { (N.ok self.old.nodes) × (L.ok self.old.leaves) }
-        ensures keeps { N.ok self.new.nodes × L.ok self.new.leaves }
         ensures digest { self.new.digest ≡ self.old.digest }
-        ensures same { (N.meaning self.new.nodes ≡ N.meaning self.old.nodes) × (L.meaning self.new.leaves ≡ L.meaning self.old.leaves) }
+        ensures same { SameStores N.meaning L.meaning self.old self.new }
         ensures refused { Refused result (out.new ≡ out.old) }
-        ensures answers { (s : State) → Keeps A.kind (D.hash self.old.digest) (N.meaning self.old.nodes) (L.meaning self.old.leaves) (take self.old.roll.len self.old.roll.rows) s
+        ensures answers { (s : State) → Holds A.kind D.hash N.meaning L.meaning self.old s
             → told (λ n. Wrote n out.new) (λ why. why) result ≡ answer A.kind (D.hash self.old.digest) s (Write closing.0 out.old) }
-        ensures stays { (s : State) → Keeps A.kind (D.hash self.old.digest) (N.meaning self.old.nodes) (L.meaning self.old.leaves) (take self.old.roll.len self.old.roll.rows) s → Keeps A.kind (D.hash self.new.digest) (N.meaning self.new.nodes) (L.meaning self.new.leaves) (take self.new.roll.len self.new.roll.rows) s }
+        ensures stays { (s : State) → Holds A.kind D.hash N.meaning L.meaning self.old s → Holds A.kind D.hash N.meaning L.meaning self.new s }
     {
         let Some(stand) = self.roll.find(closing) else {
             return Err(Refusal::NotStanding);
@@ -239,14 +217,12 @@ impl<A: Amount, D: Digest, N: NodeStore, L: NodeStore> Custodian<A, D, N, L> {
 
     // Writes the file of a line of a closing that stands, by its leaf number, and answers its length.
     pub fn issue(&mut self, closing: Closing, leaf: Leaf, out: &mut [u8]) -> Result<usize, Refusal>
-        requires { (N.ok self.old.nodes) × (L.ok self.old.leaves) }
-        ensures keeps { N.ok self.new.nodes × L.ok self.new.leaves }
         ensures digest { self.new.digest ≡ self.old.digest }
-        ensures same { (N.meaning self.new.nodes ≡ N.meaning self.old.nodes) × (L.meaning self.new.leaves ≡ L.meaning self.old.leaves) }
+        ensures same { SameStores N.meaning L.meaning self.old self.new }
         ensures refused { Refused result (out.new ≡ out.old) }
-        ensures answers { (s : State) → Keeps A.kind (D.hash self.old.digest) (N.meaning self.old.nodes) (L.meaning self.old.leaves) (take self.old.roll.len self.old.roll.rows) s → s.ledger ≡ None
+        ensures answers { (s : State) → Holds A.kind D.hash N.meaning L.meaning self.old s → s.ledger ≡ None
             → told (λ n. Wrote n out.new) (λ why. why) result ≡ answer A.kind (D.hash self.old.digest) s (Issue closing.0 leaf.0 out.old) }
-        ensures stays { (s : State) → Keeps A.kind (D.hash self.old.digest) (N.meaning self.old.nodes) (L.meaning self.old.leaves) (take self.old.roll.len self.old.roll.rows) s → Keeps A.kind (D.hash self.new.digest) (N.meaning self.new.nodes) (L.meaning self.new.leaves) (take self.new.roll.len self.new.roll.rows) s }
+        ensures stays { (s : State) → Holds A.kind D.hash N.meaning L.meaning self.old s → Holds A.kind D.hash N.meaning L.meaning self.new s }
     {
         let Some(stand) = self.roll.find(closing) else {
             return Err(Refusal::NotStanding);
@@ -267,8 +243,6 @@ impl<A: Amount, D: Digest, N: NodeStore, L: NodeStore> Custodian<A, D, N, L> {
 
     // Puts the text and the node of a line at a place.
     fn put_line(&mut self, key: Key, line: &Line<A>)
-        requires { (N.ok self.old.nodes) × (L.ok self.old.leaves) }
-        ensures keeps { N.ok self.new.nodes × L.ok self.new.leaves }
         ensures rest { (self.new.digest ≡ self.old.digest) × (self.new.roll ≡ self.old.roll) }
         ensures node { put_refusal (N.meaning self.old.nodes) key.closing.0 key.place.0 (32 + A.kind.width) ≡ None
             → Put (N.meaning self.old.nodes) (N.meaning self.new.nodes) key.closing.0 key.place.0 (node_bytes A.kind (leaf_node A.kind (D.hash self.old.digest) key.closing.0 (line_of A.meaning line.now))) }
@@ -283,15 +257,13 @@ impl<A: Amount, D: Digest, N: NodeStore, L: NodeStore> Custodian<A, D, N, L> {
 
     // Withdraws a closing: clears it in both stores, and frees its line among the eight. Refused where it does not stand.
     pub fn withdraw(&mut self, closing: Closing) -> Result<(), Refusal>
-        requires { (N.ok self.old.nodes) × (L.ok self.old.leaves) }
-        ensures keeps { N.ok self.new.nodes × L.ok self.new.leaves }
         ensures digest { self.new.digest ≡ self.old.digest }
-        ensures refused { OnErr result ((N.meaning self.new.nodes ≡ N.meaning self.old.nodes) × (L.meaning self.new.leaves ≡ L.meaning self.old.leaves)) }
-        ensures answers { (s : State) → Keeps A.kind (D.hash self.old.digest) (N.meaning self.old.nodes) (L.meaning self.old.leaves) (take self.old.roll.len self.old.roll.rows) s
+        ensures refused { OnErr result (SameStores N.meaning L.meaning self.old self.new) }
+        ensures answers { (s : State) → Holds A.kind D.hash N.meaning L.meaning self.old s
             → told (λ _. Withdrawn) (λ why. why) result ≡ answer A.kind (D.hash self.old.digest) s (Withdraw closing.0) }
-        ensures withdrawn { (s : State) → Keeps A.kind (D.hash self.old.digest) (N.meaning self.old.nodes) (L.meaning self.old.leaves) (take self.old.roll.len self.old.roll.rows) s
-            → OnOk result (Cleared (N.meaning self.old.nodes) (N.meaning self.new.nodes) closing.0 × Cleared (L.meaning self.old.leaves) (L.meaning self.new.leaves) closing.0)
-            × Keeps A.kind (D.hash self.new.digest) (N.meaning self.new.nodes) (L.meaning self.new.leaves) (take self.new.roll.len self.new.roll.rows) (next A.kind s (Withdraw closing.0)) }
+        ensures withdrawn { (s : State) → Holds A.kind D.hash N.meaning L.meaning self.old s
+            → OnOk result (ClearedBoth N.meaning L.meaning self.old self.new closing.0)
+            × Holds A.kind D.hash N.meaning L.meaning self.new (next A.kind s (Withdraw closing.0)) }
     {
         if !self.stands(closing) {
             return Err(Refusal::NotStanding);
@@ -302,31 +274,16 @@ impl<A: Amount, D: Digest, N: NodeStore, L: NodeStore> Custodian<A, D, N, L> {
     }
 }
 
-// Sixteen bytes by value, where there are sixteen.
-fn sixteen(part: &[u8]) -> Option<[u8; 16]>
-    ensures { MatchOption result (length part.now ≢ 16) (λ x. (length part.now ≡ 16) × (x ≡ part.now)) }
-{
-    if part.len() != 16 {
-        return None;
-    }
-    let mut out = [0u8; 16];
-    out.copy_from_slice(part);
-    Some(out)
-}
-
 impl<A: Amount, D: Digest, N: NodeStore, L: NodeStore> Ledger<A, D, N, L> {
     // Whether a line can be entered, by the table of refusals; answers the line and the joint total of all lines with it.
     fn admit_line(&self, customer: &[u8], salt: &[u8], balance: A) -> Result<(Line<A>, A), Refusal>
         ensures low { OnOk result ((self.now.depth ≤ 20) × (self.now.lines < 2 ^ self.now.depth)) }
-        ensures table { (s : State) → KeepsOpen A.kind (D.hash self.now.of.digest) (N.meaning self.now.of.nodes) (L.meaning self.now.of.leaves) (take self.now.of.roll.len self.now.of.roll.rows) self.now.closing.0 self.now.depth self.now.lines (A.meaning self.now.total) s
+        ensures table { (s : State) → HoldsOpen A.kind A.meaning D.hash N.meaning L.meaning self.now s
             → Answers result (enter_refusal A.kind (ledger_of s) customer.now salt.now (A.meaning balance))
             (λ x. (line_of A.meaning x.0 ≡ line_said customer.now salt.now (A.meaning balance))
             × (A.meaning x.1 ≡ balances_total A.kind ((ledger_of s).lines ++ (line_said customer.now salt.now (A.meaning balance) ∷ [])))) }
     {
-        let Some(customer) = sixteen(customer) else {
-            return Err(Refusal::BadIdentity);
-        };
-        let Some(salt) = sixteen(salt) else {
+        let (Ok(customer), Ok(salt)) = (customer.try_into(), salt.try_into()) else {
             return Err(Refusal::BadIdentity);
         };
         if self.lines >= leaf_count(self.depth as u32) {
@@ -344,78 +301,55 @@ impl<A: Amount, D: Digest, N: NodeStore, L: NodeStore> Ledger<A, D, N, L> {
     // Enters a line and answers its leaf number, the next from 0: its text goes to the leaf store and its node to the node
     // store, at its place. Refused by the first condition of its table; then nothing changes.
     pub fn enter(&mut self, customer: &[u8], salt: &[u8], balance: A) -> Result<Leaf, Refusal>
-        requires { (N.ok self.old.of.nodes) × (L.ok self.old.of.leaves) }
-        ensures keeps { N.ok self.new.of.nodes × L.ok self.new.of.leaves }
         ensures digest { self.new.of.digest ≡ self.old.of.digest }
-        ensures refused { OnErr result ((N.meaning self.new.of.nodes ≡ N.meaning self.old.of.nodes) × (L.meaning self.new.of.leaves ≡ L.meaning self.old.of.leaves)) }
-        ensures answers { (s : State) → KeepsOpen A.kind (D.hash self.old.of.digest) (N.meaning self.old.of.nodes) (L.meaning self.old.of.leaves) (take self.old.of.roll.len self.old.of.roll.rows) self.old.closing.0 self.old.depth self.old.lines (A.meaning self.old.total) s
+        ensures refused { OnErr result (SameStores N.meaning L.meaning self.old.of self.new.of) }
+        ensures answers { (s : State) → HoldsOpen A.kind A.meaning D.hash N.meaning L.meaning self.old s
             → told (λ n. Entered n.0) (λ why. why) result ≡ answer A.kind (D.hash self.old.of.digest) s (Enter customer.now salt.now (A.meaning balance)) }
-        ensures entered { (s : State) → KeepsOpen A.kind (D.hash self.old.of.digest) (N.meaning self.old.of.nodes) (L.meaning self.old.of.leaves) (take self.old.of.roll.len self.old.of.roll.rows) self.old.closing.0 self.old.depth self.old.lines (A.meaning self.old.total) s
-            → KeepsOpen A.kind (D.hash self.new.of.digest) (N.meaning self.new.of.nodes) (L.meaning self.new.of.leaves) (take self.new.of.roll.len self.new.of.roll.rows) self.new.closing.0 self.new.depth self.new.lines (A.meaning self.new.total) (next A.kind s (Enter customer.now salt.now (A.meaning balance))) }
+        ensures entered { (s : State) → HoldsOpen A.kind A.meaning D.hash N.meaning L.meaning self.old s
+            → HoldsOpen A.kind A.meaning D.hash N.meaning L.meaning self.new (next A.kind s (Enter customer.now salt.now (A.meaning balance))) }
     {
-        match self.admit_line(customer, salt, balance) {
-            Ok((line, total)) => {
-                let number = self.lines;
-                let key = Key {
-                    closing: self.closing,
-                    place: Place(leaf_count(self.depth as u32) + number),
-                };
-                self.of.put_line(key, &line);
-                self.lines = number + 1;
-                self.total = total;
-                Ok(Leaf(number))
-            }
-            Err(why) => Err(why),
-        }
+        let (line, total) = self.admit_line(customer, salt, balance)?;
+        let number = self.lines;
+        let key = Key {
+            closing: self.closing,
+            place: Place(leaf_count(self.depth as u32) + number),
+        };
+        self.of.put_line(key, &line);
+        self.lines = number + 1;
+        self.total = total;
+        Ok(Leaf(number))
     }
 
     // Closes the ledger: pads the leaves left, writes every inner node, and makes the closing stand. It never refuses.
     pub fn close(self) -> Custodian<A, D, N, L>
-        requires { (N.ok self.of.nodes) × (L.ok self.of.leaves) }
-        ensures keeps { N.ok result.nodes × L.ok result.leaves }
         ensures digest { result.digest ≡ self.of.digest }
-        ensures closed { (s : State) → KeepsOpen A.kind (D.hash self.of.digest) (N.meaning self.of.nodes) (L.meaning self.of.leaves) (take self.of.roll.len self.of.roll.rows) self.closing.0 self.depth self.lines (A.meaning self.total) s
-            → ((next A.kind s Close).ledger ≡ None) × Keeps A.kind (D.hash result.digest) (N.meaning result.nodes) (L.meaning result.leaves) (take result.roll.len result.roll.rows) (next A.kind s Close) }
-        ensures others { (s : State) → KeepsOpen A.kind (D.hash self.of.digest) (N.meaning self.of.nodes) (L.meaning self.of.leaves) (take self.of.roll.len self.of.roll.rows) self.closing.0 self.depth self.lines (A.meaning self.total) s → (d p : ℕ) → (d ≢ self.closing.0) → (N.meaning result.nodes).find d p ≡ (N.meaning self.of.nodes).find d p }
+        ensures closed { (s : State) → HoldsOpen A.kind A.meaning D.hash N.meaning L.meaning self s
+            → ((next A.kind s Close).ledger ≡ None) × Holds A.kind D.hash N.meaning L.meaning result (next A.kind s Close) }
+        ensures others { (s : State) → HoldsOpen A.kind A.meaning D.hash N.meaning L.meaning self s → (d p : ℕ) → (d ≢ self.closing.0) → (N.meaning result.nodes).find d p ≡ (N.meaning self.of.nodes).find d p }
         ensures leaves { result.leaves ≡ self.of.leaves }
     {
         let Ledger {
-            of,
+            mut of,
             closing,
             depth,
             lines,
             total: _,
         } = self;
-        let Custodian {
-            digest,
-            mut nodes,
-            leaves,
-            mut roll,
-            kind,
-        } = of;
-        grow::<A, D, N>(&digest, &mut nodes, closing, depth as u32, lines);
-        roll.add(Stand {
+        grow::<A, D, N>(&of.digest, &mut of.nodes, closing, depth as u32, lines);
+        of.roll.add(Stand {
             closing,
             depth,
             lines,
         });
-        Custodian {
-            digest,
-            nodes,
-            leaves,
-            roll,
-            kind,
-        }
+        of
     }
 
     // Abandons the ledger: clears its closing in both stores.
     pub fn abandon(self) -> Custodian<A, D, N, L>
-        requires { (N.ok self.of.nodes) × (L.ok self.of.leaves) }
-        ensures keeps { N.ok result.nodes × L.ok result.leaves }
         ensures digest { result.digest ≡ self.of.digest }
-        ensures abandoned { (s : State) → KeepsOpen A.kind (D.hash self.of.digest) (N.meaning self.of.nodes) (L.meaning self.of.leaves) (take self.of.roll.len self.of.roll.rows) self.closing.0 self.depth self.lines (A.meaning self.total) s
-            → ((next A.kind s Abandon).ledger ≡ None) × Cleared (N.meaning self.of.nodes) (N.meaning result.nodes) self.closing.0 × Cleared (L.meaning self.of.leaves) (L.meaning result.leaves) self.closing.0
-            × Keeps A.kind (D.hash result.digest) (N.meaning result.nodes) (L.meaning result.leaves) (take result.roll.len result.roll.rows) (next A.kind s Abandon) }
+        ensures abandoned { (s : State) → HoldsOpen A.kind A.meaning D.hash N.meaning L.meaning self s
+            → ((next A.kind s Abandon).ledger ≡ None) × ClearedBoth N.meaning L.meaning self.of result self.closing.0
+            × Holds A.kind D.hash N.meaning L.meaning result (next A.kind s Abandon) }
     {
         let Ledger {
             mut of,
@@ -430,29 +364,25 @@ impl<A: Amount, D: Digest, N: NodeStore, L: NodeStore> Ledger<A, D, N, L> {
 
     // Writes the sheet of a closing that stands, while this ledger is open.
     pub fn sheet(&mut self, closing: Closing, out: &mut [u8]) -> Result<usize, Refusal>
-        requires { (N.ok self.old.of.nodes) × (L.ok self.old.of.leaves) }
-        ensures keeps { N.ok self.new.of.nodes × L.ok self.new.of.leaves }
         ensures digest { self.new.of.digest ≡ self.old.of.digest }
-        ensures same { (N.meaning self.new.of.nodes ≡ N.meaning self.old.of.nodes) × (L.meaning self.new.of.leaves ≡ L.meaning self.old.of.leaves) }
+        ensures same { SameStores N.meaning L.meaning self.old.of self.new.of }
         ensures refused { Refused result (out.new ≡ out.old) }
-        ensures answers { (s : State) → KeepsOpen A.kind (D.hash self.old.of.digest) (N.meaning self.old.of.nodes) (L.meaning self.old.of.leaves) (take self.old.of.roll.len self.old.of.roll.rows) self.old.closing.0 self.old.depth self.old.lines (A.meaning self.old.total) s
+        ensures answers { (s : State) → HoldsOpen A.kind A.meaning D.hash N.meaning L.meaning self.old s
             → told (λ n. Wrote n out.new) (λ why. why) result ≡ answer A.kind (D.hash self.old.of.digest) s (Write closing.0 out.old) }
-        ensures stays { (s : State) → KeepsOpen A.kind (D.hash self.old.of.digest) (N.meaning self.old.of.nodes) (L.meaning self.old.of.leaves) (take self.old.of.roll.len self.old.of.roll.rows) self.old.closing.0 self.old.depth self.old.lines (A.meaning self.old.total) s → KeepsOpen A.kind (D.hash self.new.of.digest) (N.meaning self.new.of.nodes) (L.meaning self.new.of.leaves) (take self.new.of.roll.len self.new.of.roll.rows) self.new.closing.0 self.new.depth self.new.lines (A.meaning self.new.total) s }
+        ensures stays { (s : State) → HoldsOpen A.kind A.meaning D.hash N.meaning L.meaning self.old s → HoldsOpen A.kind A.meaning D.hash N.meaning L.meaning self.new s }
     {
         self.of.sheet(closing, out)
     }
 
     // Withdraws a closing that stands, while this ledger is open.
     pub fn withdraw(&mut self, closing: Closing) -> Result<(), Refusal>
-        requires { (N.ok self.old.of.nodes) × (L.ok self.old.of.leaves) }
-        ensures keeps { N.ok self.new.of.nodes × L.ok self.new.of.leaves }
         ensures digest { self.new.of.digest ≡ self.old.of.digest }
-        ensures refused { OnErr result ((N.meaning self.new.of.nodes ≡ N.meaning self.old.of.nodes) × (L.meaning self.new.of.leaves ≡ L.meaning self.old.of.leaves)) }
-        ensures answers { (s : State) → KeepsOpen A.kind (D.hash self.old.of.digest) (N.meaning self.old.of.nodes) (L.meaning self.old.of.leaves) (take self.old.of.roll.len self.old.of.roll.rows) self.old.closing.0 self.old.depth self.old.lines (A.meaning self.old.total) s
+        ensures refused { OnErr result (SameStores N.meaning L.meaning self.old.of self.new.of) }
+        ensures answers { (s : State) → HoldsOpen A.kind A.meaning D.hash N.meaning L.meaning self.old s
             → told (λ _. Withdrawn) (λ why. why) result ≡ answer A.kind (D.hash self.old.of.digest) s (Withdraw closing.0) }
-        ensures withdrawn { (s : State) → KeepsOpen A.kind (D.hash self.old.of.digest) (N.meaning self.old.of.nodes) (L.meaning self.old.of.leaves) (take self.old.of.roll.len self.old.of.roll.rows) self.old.closing.0 self.old.depth self.old.lines (A.meaning self.old.total) s
-            → OnOk result (Cleared (N.meaning self.old.of.nodes) (N.meaning self.new.of.nodes) closing.0 × Cleared (L.meaning self.old.of.leaves) (L.meaning self.new.of.leaves) closing.0)
-            × KeepsOpen A.kind (D.hash self.new.of.digest) (N.meaning self.new.of.nodes) (L.meaning self.new.of.leaves) (take self.new.of.roll.len self.new.of.roll.rows) self.new.closing.0 self.new.depth self.new.lines (A.meaning self.new.total) (next A.kind s (Withdraw closing.0)) }
+        ensures withdrawn { (s : State) → HoldsOpen A.kind A.meaning D.hash N.meaning L.meaning self.old s
+            → OnOk result (ClearedBoth N.meaning L.meaning self.old.of self.new.of closing.0)
+            × HoldsOpen A.kind A.meaning D.hash N.meaning L.meaning self.new (next A.kind s (Withdraw closing.0)) }
     {
         self.of.withdraw(closing)
     }

@@ -5,7 +5,6 @@ use Rattle.custodian.proofs.Custodian.issue.Goals as goal
 
 pub returns-in_default : goal.returns-in_default
 returns-in_default g c = record {
-  keeps = c.requires;
   digest = refl;
   same = (refl, refl);
   refused = refl;
@@ -15,7 +14,6 @@ returns-in_default g c = record {
 
 pub returns-then-leaf-stand : goal.returns-then-leaf-stand
 returns-then-leaf-stand g c = record {
-  keeps = c.requires;
   digest = refl;
   same = (refl, refl);
   refused = refl;
@@ -30,7 +28,6 @@ returns g c =
     let x = c.in-Some.stand in
     let w = c.write_file.ensures in
     record {
-      keeps = w.keeps;
       digest = refl;
       same = w.same;
       refused = w.refused;

@@ -4,7 +4,6 @@ use Rattle.custodian.proofs.Custodian.sheet.Goals as goal
 
 pub returns-in_default : goal.returns-in_default
 returns-in_default g c = record {
-  keeps = c.requires;
   digest = refl;
   same = (refl, refl);
   refused = refl;
@@ -17,7 +16,6 @@ returns g c =
     let n = c.args.closing.0 in
     let x = c.in-Some.stand in
     record {
-      keeps = (c.write_sheet.ensures.keeps, c.requires.1);
       digest = refl;
       same = (c.write_sheet.ensures.same, refl);
       refused = c.write_sheet.ensures.refused;

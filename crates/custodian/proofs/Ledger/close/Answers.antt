@@ -4,9 +4,8 @@ use Rattle.custodian.proofs.Ledger.close.Goals as goal
 
 pub returns : goal.returns
 returns g c = record {
-  keeps = (c.grow.ensures.keeps, c.requires.1);
   digest = refl;
-  closed = λ s open'. keeps_closed open' (c.grow.ensures.is open'.ledger (ripe_now open') (is_closing open')) (c.add.ensures.added (few_stand open'));
-  others = λ s open' d p ne. (c.grow.ensures.is open'.ledger (ripe_now open') (is_closing open')).others d p (λ e. ne (e ∙ open'.number_is));
+  closed = λ s open'. keeps_closed open' (c.grow.ensures open'.ledger (ripe_now open') (is_closing open')) (c.add.ensures.added (few_stand open'));
+  others = λ s open' d p ne. (c.grow.ensures open'.ledger (ripe_now open') (is_closing open')).others d p (λ e. ne (e ∙ open'.number_is));
   leaves = refl;
 }
