@@ -17,13 +17,14 @@ pub mod types;
 use amount::Amount;
 use digest::Digest;
 use numbering::{Closing, Leaf};
+use octets::BigEndian;
 use refusal::cases::Refusal;
 use text::Text;
 use types::{Line, Node};
 
 // The digest of a text that is never too long.
 fn digest_of<D: Digest>(digest: &D, text: &Text) -> [u8; 32]
-    ensures { result ≡ (D.hash digest.now).of (take text.now.len text.now.bytes) }
+    ensures { result ≡ (D.hash digest.now).of text.now }
 {
     match digest.digest(text.as_slice()) {
         Ok(d) => d,
@@ -33,11 +34,11 @@ fn digest_of<D: Digest>(digest: &D, text: &Text) -> [u8; 32]
 
 // The text of a line.
 pub fn leaf_text<A: Amount>(closing: Closing, line: &Line<A>) -> Text
-    ensures len { result.len ≡ 37 + A.kind.width }
-    ensures said { take result.len result.bytes ≡ leaf_text A.kind closing.0 (line_of A.meaning line.now) }
+    ensures len { length result ≡ 37 + A.kind.width }
+    ensures said { result ≡ leaf_text A.kind closing.0 (line_of A.meaning line.now) }
 {
     let mut text = Text::of_byte(0);
-    text.push(&closing.0.to_be_bytes());
+    text.push(&closing.0.be_bytes());
     text.push(&line.customer);
     text.push(&line.salt);
     text.push_amount(line.balance);
@@ -59,8 +60,8 @@ pub fn padding<A: Amount, D: Digest>(digest: &D, closing: Closing, leaf: Leaf) -
     ensures { node_of A.meaning result ≡ padding_node A.kind (D.hash digest.now) closing.0 leaf.0 }
 {
     let mut text = Text::of_byte(2);
-    text.push(&closing.0.to_be_bytes());
-    text.push(&leaf.0.to_be_bytes());
+    text.push(&closing.0.be_bytes());
+    text.push(&leaf.0.be_bytes());
     Node {
         digest: digest_of(digest, &text),
         amount: A::zero(),
@@ -68,9 +69,8 @@ pub fn padding<A: Amount, D: Digest>(digest: &D, closing: Closing, leaf: Leaf) -
 }
 
 fn push_node<A: Amount>(text: &mut Text, node: &Node<A>)
-    requires { text.old.len + (32 + A.kind.width) ≤ 225 }
-    ensures len { text.new.len ≡ text.old.len + (32 + A.kind.width) }
-    ensures said { take text.new.len text.new.bytes ≡ take text.old.len text.old.bytes ++ node_bytes A.kind (node_of A.meaning node.now) }
+    requires { length text.old + (32 + A.kind.width) ≤ 225 }
+    ensures { text.new ≡ text.old ++ node_bytes A.kind (node_of A.meaning node.now) }
 {
     text.push(&node.digest);
     text.push_amount(node.amount);
@@ -78,8 +78,8 @@ fn push_node<A: Amount>(text: &mut Text, node: &Node<A>)
 
 // The text of a node over two others.
 pub fn inner_text<A: Amount>(left: &Node<A>, right: &Node<A>) -> Text
-    ensures len { result.len ≡ 65 + 2 * A.kind.width }
-    ensures said { take result.len result.bytes ≡ inner_text A.kind (node_of A.meaning left.now) (node_of A.meaning right.now) }
+    ensures len { length result ≡ 65 + 2 * A.kind.width }
+    ensures said { result ≡ inner_text A.kind (node_of A.meaning left.now) (node_of A.meaning right.now) }
 {
     let mut text = Text::of_byte(1);
     push_node(&mut text, left);
@@ -129,13 +129,12 @@ pub fn read_node<A: Amount>(bytes: &[u8]) -> Result<Node<A>, Refusal>
         (first ((not (is_some (A.kind.read (drop 32 bytes.now))) ⇒ BadAmount 32) ∷ []))
         (λ n. read_node A.kind bytes.now ≡ Some (node_of A.meaning n)) }
 {
-    if bytes.len() < 32 {
+    let Some((digest, rest)) = bytes.split_first_chunk::<32>() else {
         return Err(Refusal::BadAmount(32));
-    }
-    let mut digest = [0u8; 32];
-    digest.copy_from_slice(&bytes[0..32]);
-    match A::read(&bytes[32..bytes.len()]) {
-        Ok(amount) => Ok(Node { digest, amount }),
-        Err(_) => Err(Refusal::BadAmount(32)),
-    }
+    };
+    let amount = A::read(rest).map_err(|_| Refusal::BadAmount(32))?;
+    Ok(Node {
+        digest: *digest,
+        amount,
+    })
 }

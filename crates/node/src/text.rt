@@ -1,21 +1,29 @@
 //! A text that grows part by part.
-ghost use Rattle.std.specs.Prelude.{◌≡◌, ℕ, ◌+◌, ◌≤◌, [], ◌∷◌, ◌++◌, length, take};
+ghost use Rattle.std.specs.Prelude.{◌≡◌, ℕ, ◌+◌, ◌≤◌, List, [], ◌∷◌, ◌++◌, length, take};
 
 use amount::Amount;
+use std::marker::Model;
 
-// The longest text has 225 bytes: an inner one at the greatest width.
+// The longest text has 225 bytes: an inner one at the greatest width. There is no heap, so they lie in an array.
 #[derive(Drop)]
 pub struct Text {
     bytes: [u8; 225],
     len: usize,
-    ghost fits: { len ≤ 225 },
+}
+
+// What it says.
+impl Model for Text {
+    ghost Value = { List ℕ };
+
+    ghost view = { λ t. take t.len t.bytes };
+
+    ghost invariant = { λ t. t.len ≤ 225 };
 }
 
 impl Text {
     // A text of one byte.
     pub(crate) fn of_byte(b: u8) -> Text
-        ensures len { result.len ≡ 1 }
-        ensures said { take result.len result.bytes ≡ b ∷ [] }
+        ensures { result ≡ b ∷ [] }
     {
         let mut bytes = [0u8; 225];
         bytes[0] = b;
@@ -24,9 +32,8 @@ impl Text {
 
     // Puts a part behind what there is.
     pub(crate) fn push(&mut self, part: &[u8])
-        requires { self.old.len + length part.now ≤ 225 }
-        ensures len { self.new.len ≡ self.old.len + length part.now }
-        ensures said { take self.new.len self.new.bytes ≡ take self.old.len self.old.bytes ++ part.now }
+        requires { length self.old + length part.now ≤ 225 }
+        ensures { self.new ≡ self.old ++ part.now }
     {
         let end = self.len + part.len();
         self.bytes[self.len..end].copy_from_slice(part);
@@ -35,9 +42,8 @@ impl Text {
 
     // Puts the bytes of an amount behind what there is.
     pub(crate) fn push_amount<A: Amount>(&mut self, amount: A)
-        requires { self.old.len + A.kind.width ≤ 225 }
-        ensures len { self.new.len ≡ self.old.len + A.kind.width }
-        ensures said { take self.new.len self.new.bytes ≡ take self.old.len self.old.bytes ++ A.kind.bytes (A.meaning amount) }
+        requires { length self.old + A.kind.width ≤ 225 }
+        ensures { self.new ≡ self.old ++ A.kind.bytes (A.meaning amount) }
     {
         let end = self.len + A::width();
         match amount.write(&mut self.bytes[self.len..end]) {
@@ -47,9 +53,9 @@ impl Text {
         self.len = end;
     }
 
-    // What it says.
     pub fn as_slice(&self) -> &[u8]
-        ensures { result.now ≡ take self.now.len self.now.bytes }
+        ensures value { result.now ≡ self.now }
+        ensures fits { length self.now ≤ 225 }
     {
         &self.bytes[0..self.len]
     }

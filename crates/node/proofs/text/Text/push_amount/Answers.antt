@@ -6,7 +6,7 @@ use Rattle.node.proofs.text.Text.push_amount.Goals as goal
 pub returns : goal.returns
 returns g c =
     let a = g.A.Amount in
-    let t = c.args.self.now in
+    let t = c.self.inside in
     let w = c.width.result in
     let m = a.meaning c.args.amount in
     let b = a.kind.bytes m in
@@ -15,8 +15,5 @@ returns g c =
     let lo : length o ≤ length b = simp length-take (omega arith) in
     let e : c.write.new.out ≡ b = c.in-Ok.ensures.answers.1.1 ∙ written_all b o lo in
     let h : t.len ≤ length t.bytes = search rules in
-    record {
-      len = ap (λ x. t.len + x) c.width.ensures;
-      said = take-put_mid t.len (t.len + w - t.len) t.bytes c.write.new.out (t.len + w) (ap (λ x. t.len + x) (sym (ap length e ∙ lb))) h
-          ∙ ap (λ x. take t.len t.bytes ++ x) e;
-    }
+    take-put_mid t.len (t.len + w - t.len) t.bytes c.write.new.out (t.len + w) (ap (λ x. t.len + x) (sym (ap length e ∙ lb))) h
+    ∙ ap (λ x. take t.len t.bytes ++ x) e ∙ ap (λ x. x ++ b) c.self.view_is
