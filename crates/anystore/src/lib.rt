@@ -19,7 +19,7 @@ use types::AnyStore;
 impl NodeStore for AnyStore {
     ghost meaning = { any_meaning };
 
-    ghost sound = { elim [ Flat s ↦ λ x. flat_sound s | Chained s ↦ λ x. chained_sound s ] };
+    ghost sound = { elim [ Flat s ↦ flat_sound s | Chained s ↦ chained_sound s ] };
 
     fn put(&mut self, key: Key, bytes: &[u8]) -> Result<(), Refusal> {
         match self {

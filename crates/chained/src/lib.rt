@@ -399,7 +399,7 @@ impl Chained {
 impl NodeStore for Chained {
     ghost meaning = { chained_meaning };
 
-    ghost sound = { λ s x. chained_sound s };
+    ghost sound = { chained_sound };
 
     fn put(&mut self, key: Key, bytes: &[u8]) -> Result<(), Refusal> {
         self.limits.admit(key, bytes.len())?;

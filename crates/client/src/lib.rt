@@ -22,13 +22,11 @@ use store::NodeStore;
 
 // Puts a record at one of the places 1 to n, where the room is enough for what is missing there: never refused.
 fn must_put<S: NodeStore>(store: &mut S, key: Key, n: u32, bytes: &[u8])
-    requires sound { S.ok store.old }
     requires within { inside (S.meaning store.old) key.closing.0 key.place.0 ≡ true }
     requires low { key.place.0 ≤ n }
     requires wide { length bytes.now ≡ (S.meaning store.old).width }
     requires room { missing (S.meaning store.old) key.closing.0 n ≤ (S.meaning store.old).room }
-    ensures keeps { S.ok store.new }
-    ensures is { Put (S.meaning store.old) (S.meaning store.new) key.closing.0 key.place.0 bytes.now }
+    ensures { Put (S.meaning store.old) (S.meaning store.new) key.closing.0 key.place.0 bytes.now }
 {
     match store.put(key, bytes) {
         Ok(()) => {}
@@ -38,10 +36,8 @@ fn must_put<S: NodeStore>(store: &mut S, key: Key, n: u32, bytes: &[u8])
 
 // Forgets a closing of the span: never refused.
 fn must_clear<S: NodeStore>(store: &mut S, closing: Closing)
-    requires sound { S.ok store.old }
-    requires within { in_span (S.meaning store.old) closing.0 ≡ true }
-    ensures keeps { S.ok store.new }
-    ensures is { Cleared (S.meaning store.old) (S.meaning store.new) closing.0 }
+    requires { in_span (S.meaning store.old) closing.0 ≡ true }
+    ensures { Cleared (S.meaning store.old) (S.meaning store.new) closing.0 }
 {
     match store.clear(closing) {
         Ok(()) => {}
@@ -51,14 +47,12 @@ fn must_clear<S: NodeStore>(store: &mut S, closing: Closing)
 
 // Puts one record at each place from 1 to n of a closing in which nothing is written.
 fn put_each<S: NodeStore>(store: &mut S, closing: Closing, n: u32, bytes: &[u8])
-    requires sound { S.ok store.old }
     requires within { in_span (S.meaning store.old) closing.0 ≡ true }
     requires below { n < (S.meaning store.old).bound }
     requires wide { length bytes.now ≡ (S.meaning store.old).width }
     requires absent { (p : ℕ) → (S.meaning store.old).find closing.0 p ≡ None }
     requires room { n ≤ (S.meaning store.old).room }
-    ensures keeps { S.ok store.new }
-    ensures is { Filled (S.meaning store.old) (S.meaning store.new) closing.0 n bytes.now }
+    ensures { Filled (S.meaning store.old) (S.meaning store.new) closing.0 n bytes.now }
 {
     for i in 0..n {
         must_put(
@@ -80,7 +74,6 @@ fn admit_fill<S: NodeStore>(
     n: u32,
     width: usize,
 ) -> Result<(), Refusal>
-    requires { S.ok store.now }
     ensures { Answers result (fill_refusal (S.meaning store.now) closing.0 n width) (λ _. Unit {0}) }
 {
     let limits = store.limits();
@@ -104,8 +97,6 @@ pub fn fill_closing<S: NodeStore>(
     n: u32,
     bytes: &[u8],
 ) -> Result<(), Refusal>
-    requires { S.ok store.old }
-    ensures keeps { S.ok store.new }
     ensures answers { Answers result
         (fill_refusal (S.meaning store.old) closing.0 n (length bytes.now))
         (λ _. Filled (S.meaning store.old) (S.meaning store.new) closing.0 n bytes.now) }
@@ -127,7 +118,6 @@ fn holds_places(bound: u32, depth: u32) -> bool
 
 // Whether a store has records of a width, and keys for every place of a tree of a depth under a closing.
 pub fn suits<S: NodeStore>(store: &S, width: usize, closing: Closing, depth: u32) -> bool
-    requires { S.ok store.now }
     ensures { result ≡ suits_tree (S.meaning store.now) width closing.0 depth }
 {
     let limits = store.limits();
@@ -139,8 +129,6 @@ pub fn suits<S: NodeStore>(store: &S, width: usize, closing: Closing, depth: u32
 
 // Fills the buffer with the record under a key; false, and the buffer stays, where there is none for it.
 pub fn fetch<S: NodeStore>(store: &mut S, key: Key, into: &mut [u8]) -> bool
-    requires { S.ok store.old }
-    ensures keeps { S.ok store.new }
     ensures same { S.meaning store.new ≡ S.meaning store.old }
     ensures found { result ≡ is_some (fetched (S.meaning store.old) key.closing.0 key.place.0 (length into.old)) }
     ensures filled { into.new ≡ unwrap_or (fetched (S.meaning store.old) key.closing.0 key.place.0 (length into.old)) into.old }
@@ -153,8 +141,6 @@ pub fn fetch<S: NodeStore>(store: &mut S, key: Key, into: &mut [u8]) -> bool
 
 // Sets the record under a key where the store does not refuse it; otherwise nothing changes.
 pub fn keep<S: NodeStore>(store: &mut S, key: Key, bytes: &[u8])
-    requires { S.ok store.old }
-    ensures keeps { S.ok store.new }
     ensures is { put_refusal (S.meaning store.old) key.closing.0 key.place.0 (length bytes.now) ≡ None
         → Put (S.meaning store.old) (S.meaning store.new) key.closing.0 key.place.0 bytes.now }
     ensures refused { (e : RefusalSaid) → put_refusal (S.meaning store.old) key.closing.0 key.place.0 (length bytes.now) ≡ Some e
@@ -165,8 +151,6 @@ pub fn keep<S: NodeStore>(store: &mut S, key: Key, bytes: &[u8])
 
 // Forgets a closing of the span; otherwise nothing changes.
 pub fn forget<S: NodeStore>(store: &mut S, closing: Closing)
-    requires { S.ok store.old }
-    ensures keeps { S.ok store.new }
     ensures is { in_span (S.meaning store.old) closing.0 ≡ true → Cleared (S.meaning store.old) (S.meaning store.new) closing.0 }
     ensures refused { in_span (S.meaning store.old) closing.0 ≡ false → S.meaning store.new ≡ S.meaning store.old }
 {

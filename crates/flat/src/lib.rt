@@ -192,7 +192,7 @@ impl Flat {
 impl NodeStore for Flat {
     ghost meaning = { flat_meaning };
 
-    ghost sound = { λ s x. flat_sound s };
+    ghost sound = { flat_sound };
 
     fn put(&mut self, key: Key, bytes: &[u8]) -> Result<(), Refusal> {
         self.limits.admit(key, bytes.len())?;

@@ -62,13 +62,8 @@ impl Limits {
 pub trait NodeStore {
     ghost meaning: { Self → Meaning };
 
-    // What else holds of the value between calls: a store gives it when made, and each call keeps it.
-    ghost ok: { Self → Type 0 } = { λ _. Unit {0} };
-
     // Sets the record under a key.
     fn put(&mut self, key: Key, bytes: &[u8]) -> Result<(), Refusal>
-        requires { ok self.old }
-        ensures keeps { ok self.new }
         ensures answers { Answers result
             (put_refusal (meaning self.old) key.closing.0 key.place.0 (length bytes.now))
             (λ _. Put (meaning self.old) (meaning self.new) key.closing.0 key.place.0 bytes.now) }
@@ -77,8 +72,6 @@ pub trait NodeStore {
     // Fills the buffer with the record under a key, or answers false where there is none. What the store means stays,
     // though what it keeps nearby may change.
     fn get(&mut self, key: Key, into: &mut [u8]) -> Result<bool, Refusal>
-        requires { ok self.old }
-        ensures keeps { ok self.new }
         ensures same { meaning self.new ≡ meaning self.old }
         ensures answers { Answers result
             (get_refusal (meaning self.old) key.closing.0 key.place.0 (length into.old))
@@ -87,15 +80,12 @@ pub trait NodeStore {
 
     // How many places of a closing are written.
     fn held(&self, closing: Closing) -> Result<u32, Refusal>
-        requires { ok self.now }
         ensures { Answers result
             (held_refusal (meaning self.now) closing.0)
             (λ n. n ≡ held_in (meaning self.now) closing.0) };
 
     // Forgets every record of a closing.
     fn clear(&mut self, closing: Closing) -> Result<(), Refusal>
-        requires { ok self.old }
-        ensures keeps { ok self.new }
         ensures answers { Answers result
             (clear_refusal (meaning self.old) closing.0)
             (λ _. Cleared (meaning self.old) (meaning self.new) closing.0) }
@@ -103,16 +93,14 @@ pub trait NodeStore {
 
     // How many new keys can still be written.
     fn room(&self) -> u64
-        requires { ok self.now }
         ensures { result ≡ (meaning self.now).room };
 
     // The width, the span and the bound, by which a caller sees whether the store suits.
     fn limits(&self) -> Limits
-        requires { ok self.now }
         ensures { (result.width ≡ (meaning self.now).width)
             × (result.first ≡ (meaning self.now).first)
             × (result.last ≡ (meaning self.now).last)
             × (result.bound ≡ (meaning self.now).bound) };
 
-    ghost sound: { (s : Self) → ok s → Sound (meaning s) };
+    ghost sound: { (s : Self) → Sound (meaning s) };
 }

@@ -7,17 +7,16 @@ use Rattle.client.proofs.fill_closing.Goals as goal
 pub must_clear-requires : goal.must_clear-requires
 must_clear-requires g c =
     let m : Meaning = g.S.NodeStore.meaning c.args.store.now in
-    record { sound = c.requires; within = (fill_opened m c.args.closing.0 c.args.n (length c.args.bytes.now) c.in_ok-admit_fill.ensures.0).0 }
+    (fill_opened m c.args.closing.0 c.args.n (length c.args.bytes.now) c.in_ok-admit_fill.ensures.0).0
 
 pub put_each-requires : goal.put_each-requires
 put_each-requires g c =
     let m : Meaning = g.S.NodeStore.meaning c.args.store.now in
     let k : Meaning = g.S.NodeStore.meaning c.must_clear.new.store in
-    let w = c.must_clear.ensures.is in
+    let w = c.must_clear.ensures in
     let o = fill_opened m c.args.closing.0 c.args.n (length c.args.bytes.now) c.in_ok-admit_fill.ensures.0 in
     let s = span_out m.first m.last c.args.closing.0 o.0 in
     record {
-      sound = c.must_clear.ensures.keeps;
       within = span_in k.first k.last c.args.closing.0 (omega (arith, s, w.limits.first)) (omega (arith, s, w.limits.last));
       below = omega (arith, o.1, w.limits.bound);
       wide = o.2 ∙ sym w.limits.width;
@@ -31,7 +30,6 @@ returns g c =
     let k : Meaning = g.S.NodeStore.meaning c.must_clear.new.store in
     let n : Meaning = g.S.NodeStore.meaning c.put_each.new.store in
     record {
-      keeps = c.put_each.ensures.keeps;
-      answers = (c.in_ok-admit_fill.ensures.0, filled_cleared m k n c.args.closing.0 c.args.n c.args.bytes.now c.must_clear.ensures.is c.put_each.ensures.is);
+      answers = (c.in_ok-admit_fill.ensures.0, filled_cleared m k n c.args.closing.0 c.args.n c.args.bytes.now c.must_clear.ensures c.put_each.ensures);
       refused = tt;
     }

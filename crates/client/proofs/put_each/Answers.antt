@@ -14,7 +14,6 @@ turn m k c n i r f s b h =
 pub loop-i-init : goal.loop-i-init
 loop-i-init g c =
     let m : Meaning = g.S.NodeStore.meaning c.args.store.now in (
-      c.requires.sound,
       filled_none m c.args.closing.0 c.args.bytes.now c.requires.absent,
       omega (arith, missing_le m c.args.closing.0 c.args.n, c.requires.room),
     )
@@ -23,13 +22,12 @@ pub must_put-requires : goal.must_put-requires
 must_put-requires g c =
     let m : Meaning = g.S.NodeStore.meaning c.args.store.now in
     let k : Meaning = g.S.NodeStore.meaning c.loop-i.store in
-    let f = c.loop-i.invariant.1 in
+    let f = c.loop-i.invariant.0 in
     record {
-      sound = c.loop-i.invariant.0;
       within = turn m k c.args.closing.0 c.args.n c.loop-i.i c.args.bytes.now f (span_out m.first m.last c.args.closing.0 c.requires.within) c.requires.below c.loop-i-test.true;
       low = omega arith;
       wide = c.requires.wide ∙ sym f.limits.width;
-      room = c.loop-i.invariant.2;
+      room = c.loop-i.invariant.1;
     }
 
 pub loop-i-preserved : goal.loop-i-preserved
@@ -37,11 +35,10 @@ loop-i-preserved g c =
     let m : Meaning = g.S.NodeStore.meaning c.args.store.now in
     let k : Meaning = g.S.NodeStore.meaning c.loop-i.store in
     let n : Meaning = g.S.NodeStore.meaning c.must_put.new.store in
-    let f = c.loop-i.invariant.1 in
+    let f = c.loop-i.invariant.0 in
     let t = turn m k c.args.closing.0 c.args.n c.loop-i.i c.args.bytes.now f (span_out m.first m.last c.args.closing.0 c.requires.within) c.requires.below c.loop-i-test.true in (
-      c.must_put.ensures.keeps,
-      filled_more m k n c.args.closing.0 c.loop-i.i c.args.bytes.now f c.must_put.ensures.is,
-      omega (arith, put_missing k n c.args.closing.0 (c.loop-i.i + 1) c.args.bytes.now t c.must_put.ensures.is c.args.n (omega arith), c.loop-i.invariant.2),
+      filled_more m k n c.args.closing.0 c.loop-i.i c.args.bytes.now f c.must_put.ensures,
+      omega (arith, put_missing k n c.args.closing.0 (c.loop-i.i + 1) c.args.bytes.now t c.must_put.ensures c.args.n (omega arith), c.loop-i.invariant.1),
     )
 
 pub returns : goal.returns
@@ -49,4 +46,4 @@ returns g c =
     let m : Meaning = g.S.NodeStore.meaning c.args.store.now in
     let k : Meaning = g.S.NodeStore.meaning c.loop-i.store in
     let e : c.loop-i.i ≡ c.args.n = omega arith in
-    record { keeps = c.loop-i.invariant.0; is = subst (λ i. Filled m k c.args.closing.0 i c.args.bytes.now) e c.loop-i.invariant.1 }
+    subst (λ i. Filled m k c.args.closing.0 i c.args.bytes.now) e c.loop-i.invariant.0

@@ -5,6 +5,5 @@ use Rattle.client.proofs.put_each.Given as goal
 
 abbrev pub invariant-loop-i : goal.invariant-loop-i
 invariant-loop-i g l =
-    g.S.NodeStore.ok l.store
-    × Filled (g.S.NodeStore.meaning l.initial.store) (g.S.NodeStore.meaning l.store) l.closing.0 l.i l.bytes
+    Filled (g.S.NodeStore.meaning l.initial.store) (g.S.NodeStore.meaning l.store) l.closing.0 l.i l.bytes
     × (missing (g.S.NodeStore.meaning l.store) l.closing.0 l.n ≤ (g.S.NodeStore.meaning l.store).room)

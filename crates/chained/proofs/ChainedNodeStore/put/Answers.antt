@@ -12,7 +12,6 @@ returns-then-i-ne0 c =
     let p = c.args.key.place.0 in
     let t = get_opened (chained_meaning s) k p (length c.args.bytes.now) c.in_ok-admit.ensures.0 in
     record {
-      keeps = tt;
       answers = (
         put_open (chained_meaning s) k p (length c.args.bytes.now) t.0 t.1
             (λ e. absurd (found_some (vec_items s.memory) n.width s.count n.first n.last n.bound k p t.0 (λ z. c.if-i-ne0.true (c.seek-i.ensures.is ∙ z)) e)),

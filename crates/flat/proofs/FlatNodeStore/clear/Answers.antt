@@ -50,4 +50,4 @@ invariant_of-self c =
     }
 
 pub returns : goal.returns
-returns c = let s = c.args.self.now in record { keeps = tt; answers = (c.in_ok-admit_closing.ensures.0, done s c.clear_marks.new.memory c.args.closing.0 c.count-n.result c.slot-base.result c.in_ok-admit_closing.ensures.0 c.slot-base.ensures.is c.clear_marks.ensures.len c.clear_marks.ensures.marks c.clear_marks.ensures.rest c.count-n.ensures); refused = tt }
+returns c = let s = c.args.self.now in record { answers = (c.in_ok-admit_closing.ensures.0, done s c.clear_marks.new.memory c.args.closing.0 c.count-n.result c.slot-base.result c.in_ok-admit_closing.ensures.0 c.slot-base.ensures.is c.clear_marks.ensures.len c.clear_marks.ensures.marks c.clear_marks.ensures.rest c.count-n.ensures); refused = tt }

@@ -52,4 +52,4 @@ returns c =
     let p = c.args.key.place.0 in
     let t = get_opened (flat_meaning s) k p (length c.args.bytes.now) c.in_ok-admit.ensures.0 in
     let room : (flat_meaning s).find k p ≡ None → 1 ≤ s.room = λ e. omega (arith, s.counts, not_all (flat_meaning s) k p t.0 e) in
-    record { keeps = tt; answers = (put_open (flat_meaning s) k p (length c.args.bytes.now) t.0 t.1 room, done s (vec_items c.write_slot.new.memory) k p c.room_after-room.result c.slot-at.result c.args.bytes.now c.in_ok-admit.ensures.0 c.slot-at.ensures.is c.write_slot.ensures.items c.room_after-room.ensures); refused = tt }
+    record { answers = (put_open (flat_meaning s) k p (length c.args.bytes.now) t.0 t.1 room, done s (vec_items c.write_slot.new.memory) k p c.room_after-room.result c.slot-at.result c.args.bytes.now c.in_ok-admit.ensures.0 c.slot-at.ensures.is c.write_slot.ensures.items c.room_after-room.ensures); refused = tt }
