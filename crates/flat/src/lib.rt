@@ -39,37 +39,14 @@ pub fn measure(limits: Limits, memory: usize) -> Result<(), Refusal>
     }
 }
 
-// Copies by way of a buffer: the compiler sees that neither copy overlaps, and moves many bytes at once.
-fn copy_through(into: &mut [u8], bytes: &[u8], buffer: &mut [u8])
-    requires same { length into.old ≡ length bytes.now }
-    requires short { length bytes.now ≤ length buffer.old }
-    ensures { into.new ≡ bytes.now }
-{
-    let n = bytes.len();
-    buffer[0..n].copy_from_slice(bytes);
-    into.copy_from_slice(&buffer[0..n]);
-}
-
-// Writes bytes over those from `at` on.
-fn write_part(memory: &mut [u8], at: usize, bytes: &[u8])
-    requires fits { at + length bytes.now ≤ length memory.old }
-    requires short { length bytes.now ≤ 128 }
-    ensures { memory.new ≡ patch memory.old at bytes.now }
-{
-    let mut buffer = [0; 128];
-    let end = at + bytes.len();
-    copy_through(&mut memory[at..end], bytes, &mut buffer);
-}
-
 // Writes a slot: its mark, and the record behind it.
-fn write_slot(memory: &mut Vec<u8>, at: usize, bytes: &[u8])
-    requires fits { at + 1 + length bytes.now ≤ vec_len memory.old }
-    requires short { length bytes.now ≤ 128 }
-    ensures items { memory.new.items ≡ patch (slice_set memory.old.items at 1) (at + 1) bytes.now }
-    ensures len { vec_len memory.new ≡ vec_len memory.old }
+fn write_slot(memory: &mut [u8], at: usize, bytes: &[u8])
+    requires { at + 1 + length bytes.now ≤ length memory.old }
+    ensures { memory.new ≡ patch (slice_set memory.old at 1) (at + 1) bytes.now }
 {
     memory[at] = 1;
-    write_part(memory, at + 1, bytes);
+    let end = at + 1 + bytes.len();
+    memory[at + 1..end].copy_from_slice(bytes);
 }
 
 // Sets the marks of n slots to 0, from the one at `base` on.
@@ -210,8 +187,7 @@ impl NodeStore for Flat {
             return Ok(false);
         }
         let end = at + 1 + into.len();
-        let mut buffer = [0; 128];
-        copy_through(into, &self.memory[at + 1..end], &mut buffer);
+        into.copy_from_slice(&self.memory[at + 1..end]);
         Ok(true)
     }
 

@@ -1,9 +1,11 @@
-use Rattle.std.proofs.Common.{◌≡◌, ◌+◌, length, refl, ap, ◌∙◌, rules}
+use Rattle.std.proofs.Common.{◌+◌, length, refl, ◌∙◌, arith}
+use Rattle.std.proofs.lemmas.Slice.{put_mid-paste}
+use Rattle.std.proofs.lemmas.List.Edits.{paste_all}
 use Rattle.memory.specs.Part.{patch}
-use Rattle.std.proofs.lemmas.List.{take_at}
 use Rattle.flat.proofs.write_slot.Goals as goal
 
 pub returns : goal.returns
+unfolding patch
 returns c =
-    let l : length c.write_part.new.memory ≡ c.args.memory.now.len = search rules in
-    record { items = take_at c.write_part.new.memory _ _ l ∙ c.write_part.ensures ∙ ap (λ xs. patch xs (c.args.at + 1) c.args.bytes.now) c.deref_mut.ensures.value; len = refl }
+    let bs = c.args.bytes.now in
+    put_mid-paste _ _ _ _ bs (length bs) c.copy_from_slice.ensures.after (omega arith) refl ∙ paste_all _ (c.args.at + 1) bs (length bs) refl

@@ -1,4 +1,6 @@
-use Rattle.std.proofs.Common.{◌≡◌, ℕ, ◌+◌, ◌≤◌, cond, List, length, set, is_some, None, vec_items, ◌∙◌, arith}
+use Rattle.std.proofs.Common.{rules, ap, ◌≡◌, ℕ, ◌+◌, ◌≤◌, cond, List, length, set, is_some, None, vec_items, ◌∙◌, arith}
+use Rattle.std.specs.Vec.{with_items}
+use Rattle.std.proofs.lemmas.List.{take_at}
 use Rattle.store.specs.Calls.{Put, get_refusal}
 use Rattle.store.proofs.Inside.{key_span}
 use Rattle.store.proofs.Refusals.{get_opened, put_open}
@@ -36,12 +38,16 @@ invariant_of-self c =
     let k = c.args.key.closing.0 in
     let p = c.args.key.place.0 in
     let t = get_opened (flat_meaning s) k p (length c.args.bytes.now) c.in_ok-admit.ensures.0 in
+    let v = with_items s.memory c.write_slot.new.memory in
+    let l : length c.write_slot.new.memory ≡ s.memory.len = search rules in
+    let e : vec_items v ≡ patch (set (vec_items s.memory) c.slot-at.result 1) (c.slot-at.result + 1) c.args.bytes.now =
+    take_at c.write_slot.new.memory _ _ l ∙ c.write_slot.ensures ∙ ap (λ xs. patch (set xs c.slot-at.result 1) (c.slot-at.result + 1) c.args.bytes.now) c.deref_mut.ensures.value in
     record {
       narrow = s.narrow;
       span = s.span;
       places = s.places;
-      fits = omega (arith, s.fits, c.write_slot.ensures.len);
-      counts = put_all (flat_meaning s) _ k p c.args.bytes.now t.0 (key_span n.first n.last n.bound k p t.0) (done s (vec_items c.write_slot.new.memory) k p c.room_after-room.result c.slot-at.result c.args.bytes.now c.in_ok-admit.ensures.0 c.slot-at.ensures.is c.write_slot.ensures.items c.room_after-room.ensures) ∙ s.counts;
+      fits = s.fits;
+      counts = put_all (flat_meaning s) _ k p c.args.bytes.now t.0 (key_span n.first n.last n.bound k p t.0) (done s (vec_items v) k p c.room_after-room.result c.slot-at.result c.args.bytes.now c.in_ok-admit.ensures.0 c.slot-at.ensures.is e c.room_after-room.ensures) ∙ s.counts;
     }
 
 pub returns : goal.returns
@@ -52,4 +58,8 @@ returns c =
     let p = c.args.key.place.0 in
     let t = get_opened (flat_meaning s) k p (length c.args.bytes.now) c.in_ok-admit.ensures.0 in
     let room : (flat_meaning s).find k p ≡ None → 1 ≤ s.room = λ e. omega (arith, s.counts, not_all (flat_meaning s) k p t.0 e) in
-    record { answers = (put_open (flat_meaning s) k p (length c.args.bytes.now) t.0 t.1 room, done s (vec_items c.write_slot.new.memory) k p c.room_after-room.result c.slot-at.result c.args.bytes.now c.in_ok-admit.ensures.0 c.slot-at.ensures.is c.write_slot.ensures.items c.room_after-room.ensures); refused = tt }
+    let v = with_items s.memory c.write_slot.new.memory in
+    let l : length c.write_slot.new.memory ≡ s.memory.len = search rules in
+    let e : vec_items v ≡ patch (set (vec_items s.memory) c.slot-at.result 1) (c.slot-at.result + 1) c.args.bytes.now =
+    take_at c.write_slot.new.memory _ _ l ∙ c.write_slot.ensures ∙ ap (λ xs. patch (set xs c.slot-at.result 1) (c.slot-at.result + 1) c.args.bytes.now) c.deref_mut.ensures.value in
+    record { answers = (put_open (flat_meaning s) k p (length c.args.bytes.now) t.0 t.1 room, done s (vec_items v) k p c.room_after-room.result c.slot-at.result c.args.bytes.now c.in_ok-admit.ensures.0 c.slot-at.ensures.is e c.room_after-room.ensures); refused = tt }
