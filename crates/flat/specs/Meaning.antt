@@ -1,8 +1,14 @@
 -- What a flat store means.
 use Rattle.std.specs.Prelude.{vec_items}
+use Rattle.store.specs.declared.limits.Limits.{Limits}
 use Rattle.store.specs.Meaning.{Meaning}
-use Rattle.flat_theory.specs.Layout.{flat_of}
+use Rattle.store.specs.Calls.{Empty}
 use Rattle.flat.specs.declared.types.Flat.{Flat}
+use Rattle.flat.specs.Sizes.{meaning_of, room_of}
 
 abbrev pub flat_meaning : Flat → Meaning
-flat_meaning s = flat_of (vec_items s.memory) s.limits.width s.limits.first s.limits.last s.limits.bound s.room
+flat_meaning s = meaning_of (vec_items s.memory) s.extent.limits s.room
+
+-- nothing is written yet, within these limits
+abbrev pub IsEmpty : Flat → Limits → Type 0
+IsEmpty s l = Empty (flat_meaning s) l.width l.first l.last l.bound (room_of l)

@@ -9,11 +9,12 @@ ghost use Rattle.std.specs.Prelude.{◌≡◌, ℕ, ◌+◌, ◌-◌, ◌*◌, �
 ghost use Rattle.refusal.specs.declared.cases.Refusal.TheVariants.{MemoryUnfit};
 ghost use Rattle.refusal.specs.Tables.{Answers};
 ghost use Rattle.memory.specs.Part.{patch};
-ghost use Rattle.store.specs.Meaning.{spans, holds_key};
+ghost use Rattle.store.specs.Meaning.{in_span, inside};
 ghost use Rattle.store.specs.Counts.{held as held_in};
 ghost use Rattle.store.specs.Calls.{Empty};
-ghost use Rattle.flat_theory.specs.Layout.{slot_of, slot_at, flat_refusal, flat_room};
-ghost use Rattle.flat.specs.Meaning.{flat_meaning};
+ghost use Rattle.flat_theory.specs.Layout.{slot_at};
+ghost use Rattle.flat.specs.Sizes.{bytes_of, refusal_of, start_of};
+ghost use Rattle.flat.specs.Meaning.{flat_meaning, IsEmpty};
 ghost use Rattle.flat.specs.Sounds.{flat_sound};
 
 pub mod types;
@@ -21,22 +22,28 @@ pub mod types;
 use numbering::{Closing, Key, Place};
 use refusal::cases::Refusal;
 use store::NodeStore;
-use store::limits::Limits;
+use store::limits::{Extent, Limits};
 use types::Flat;
 
-// Whether a store with these limits fits in so many bytes.
-pub fn measure(limits: Limits, memory: usize) -> Result<(), Refusal>
-    ensures { Answers result (flat_refusal limits.width limits.first limits.last limits.bound memory) (λ _. Unit {0}) }
+// The extent of a store with these limits, where it fits in so many bytes.
+fn fitting(limits: Limits, memory: usize) -> Result<Extent, Refusal>
+    ensures { Answers result (refusal_of limits memory) (λ extent. extent.limits ≡ limits) }
 {
-    if !limits.valid() {
-        return Err(Refusal::MemoryUnfit);
-    }
-    let slots = (limits.last + 1 - limits.first) as usize * limits.bound as usize;
+    let extent = Extent::new(limits)?;
+    let slots = extent.closings() as usize * limits.bound as usize;
     if slots * (limits.width + 1) <= memory {
-        Ok(())
+        Ok(extent)
     } else {
         Err(Refusal::MemoryUnfit)
     }
+}
+
+// Whether a store with these limits fits in so many bytes.
+pub fn measure(limits: Limits, memory: usize) -> Result<(), Refusal>
+    ensures { Answers result (refusal_of limits memory) (λ _. Unit {0}) }
+{
+    fitting(limits, memory)?;
+    Ok(())
 }
 
 // Writes a slot: its mark, and the record behind it.
@@ -50,60 +57,37 @@ fn write_slot(memory: &mut [u8], at: usize, bytes: &[u8])
 }
 
 // Sets the marks of n slots to 0, from the one at `base` on.
-fn clear_marks(memory: &mut Vec<u8>, base: usize, step: usize, n: usize)
-    requires { (base + n * step ≤ vec_len memory.old) × (1 ≤ step) }
-    ensures len { vec_len memory.new ≡ vec_len memory.old }
-    ensures marks { (k : ℕ) → k < n → slice_index memory.new.items (base + k * step) ≡ 0 }
-    ensures rest { (j : ℕ) → ((k : ℕ) → k < n → j ≢ base + k * step) → slice_index memory.new.items j ≡ slice_index memory.old.items j }
+fn clear_marks(memory: &mut [u8], base: usize, step: usize, n: usize)
+    requires { (base + n * step ≤ length memory.old) × (1 ≤ step) }
+    ensures marks { (k : ℕ) → k < n → slice_index memory.new (base + k * step) ≡ 0 }
+    ensures rest { (j : ℕ) → ((k : ℕ) → k < n → j ≢ base + k * step) → slice_index memory.new j ≡ slice_index memory.old j }
 {
-    let mut at = base;
-    for _i in 0..n {
-        memory[at] = 0;
-        at += step;
+    for i in 0..n {
+        memory[base + i * step] = 0;
     }
 }
 
 impl Flat {
     // A store in which nothing is written; one with an empty span where measuring refuses.
     pub fn new(memory: Vec<u8>, limits: Limits) -> Flat
-        ensures fit { flat_refusal limits.width limits.first limits.last limits.bound (vec_len memory) ≡ None
-            → Empty (flat_meaning result) limits.width limits.first limits.last limits.bound (flat_room limits.first limits.last limits.bound) }
-        ensures unfit { flat_refusal limits.width limits.first limits.last limits.bound (vec_len memory) ≡ Some MemoryUnfit
-            → Empty (flat_meaning result) 1 1 0 2 0 }
+        ensures fit { refusal_of limits (vec_len memory) ≡ None → IsEmpty result limits }
+        ensures unfit { refusal_of limits (vec_len memory) ≡ Some MemoryUnfit → Empty (flat_meaning result) 1 1 0 2 0 }
         ensures kept { vec_len result.memory ≡ vec_len memory }
     {
-        match measure(limits, memory.len()) {
-            Err(_) => Flat::shut(memory),
-            Ok(()) => Flat::emptied(memory, limits),
-        }
-    }
-
-    // The store on a memory that does not fit.
-    fn shut(memory: Vec<u8>) -> Flat
-        ensures is { Empty (flat_meaning result) 1 1 0 2 0 }
-        ensures kept { vec_len result.memory ≡ vec_len memory }
-    {
-        let limits = Limits {
-            width: 1,
-            first: 1,
-            last: 0,
-            bound: 2,
-        };
-        Flat {
-            memory,
-            limits,
-            room: 0,
+        match fitting(limits, memory.len()) {
+            Ok(extent) => Flat::emptied(memory, extent),
+            Err(_) => Flat::emptied(memory, Extent::empty()),
         }
     }
 
     // The store on a memory that fits, with every mark 0.
-    fn emptied(memory: Vec<u8>, limits: Limits) -> Flat
-        requires { flat_refusal limits.width limits.first limits.last limits.bound (vec_len memory) ≡ None }
-        ensures is { Empty (flat_meaning result) limits.width limits.first limits.last limits.bound (flat_room limits.first limits.last limits.bound) }
+    fn emptied(mut memory: Vec<u8>, extent: Extent) -> Flat
+        requires { bytes_of extent.limits ≤ vec_len memory }
+        ensures is { IsEmpty result extent.limits }
         ensures kept { vec_len result.memory ≡ vec_len memory }
     {
-        let closings = limits.last + 1 - limits.first;
-        let mut memory = memory;
+        let limits = extent.limits;
+        let closings = extent.closings();
         clear_marks(
             &mut memory,
             0,
@@ -112,7 +96,7 @@ impl Flat {
         );
         Flat {
             memory,
-            limits,
+            extent,
             room: closings as u64 * (limits.bound - 1) as u64,
         }
     }
@@ -126,21 +110,31 @@ impl Flat {
 
     // Where the slot of a key starts.
     fn slot(&self, key: Key) -> usize
-        requires { holds_key self.now.limits.first self.now.limits.last self.now.limits.bound key.closing.0 key.place.0 ≡ true }
-        ensures is { result ≡ slot_of self.now.limits.width self.now.limits.first self.now.limits.bound key.closing.0 key.place.0 }
-        ensures fits { result + 1 + self.now.limits.width ≤ vec_len self.now.memory }
+        requires { inside (flat_meaning self.now) key.closing.0 key.place.0 ≡ true }
+        ensures is { result ≡ start_of self.now.extent.limits key.closing.0 key.place.0 }
+        ensures fits { result + 1 + self.now.extent.limits.width ≤ vec_len self.now.memory }
     {
-        let row = (key.closing.0 - self.limits.first) as usize;
-        (row * self.limits.bound as usize + key.place.0 as usize) * (self.limits.width + 1)
+        let limits = self.extent.limits;
+        let row = (key.closing.0 - limits.first) as usize;
+        (row * limits.bound as usize + key.place.0 as usize) * (limits.width + 1)
+    }
+
+    // Whether the slot at `at` is written.
+    fn is_written(&self, at: usize) -> bool
+        requires { at < vec_len self.now.memory }
+        ensures { result ≡ is_some (slot_at self.now.memory.items self.now.extent.limits.width at) }
+    {
+        let mark = self.memory[at];
+        mark == 1
     }
 
     // The room once the slot at `at` is written.
     fn room_after(&self, at: usize) -> u64
         requires within { at < vec_len self.now.memory }
-        requires some { slot_at self.now.memory.items self.now.limits.width at ≡ None → 1 ≤ self.now.room }
-        ensures { result + (if is_some (slot_at self.now.memory.items self.now.limits.width at) then 0 else 1) ≡ self.now.room }
+        requires some { slot_at self.now.memory.items self.now.extent.limits.width at ≡ None → 1 ≤ self.now.room }
+        ensures { result + (if is_some (slot_at self.now.memory.items self.now.extent.limits.width at) then 0 else 1) ≡ self.now.room }
     {
-        if self.memory[at] == 1 {
+        if self.is_written(at) {
             self.room
         } else {
             self.room - 1
@@ -149,20 +143,17 @@ impl Flat {
 
     // How many places of a closing are written.
     fn count(&self, closing: Closing) -> u32
-        requires { spans self.now.limits.first self.now.limits.last closing.0 ≡ true }
+        requires { in_span (flat_meaning self.now) closing.0 ≡ true }
         ensures { result ≡ held_in (flat_meaning self.now) closing.0 }
     {
-        let mut n = 0;
-        for k in 0..self.limits.bound - 1 {
+        let is_written = |place: &u32| {
             let at = self.slot(Key {
                 closing,
-                place: Place(k + 1),
+                place: Place(*place),
             });
-            if self.memory[at] == 1 {
-                n += 1;
-            }
-        }
-        n
+            self.is_written(at)
+        };
+        (1..self.extent.limits.bound).filter(is_written).count() as u32
     }
 }
 
@@ -172,7 +163,7 @@ impl NodeStore for Flat {
     ghost sound = { flat_sound };
 
     fn put(&mut self, key: Key, bytes: &[u8]) -> Result<(), Refusal> {
-        self.limits.admit(key, bytes.len())?;
+        self.extent.limits.admit(key, bytes.len())?;
         let at = self.slot(key);
         let room = self.room_after(at);
         write_slot(&mut self.memory, at, bytes);
@@ -181,9 +172,9 @@ impl NodeStore for Flat {
     }
 
     fn get(&mut self, key: Key, into: &mut [u8]) -> Result<bool, Refusal> {
-        self.limits.admit(key, into.len())?;
+        self.extent.limits.admit(key, into.len())?;
         let at = self.slot(key);
-        if self.memory[at] != 1 {
+        if !self.is_written(at) {
             return Ok(false);
         }
         let end = at + 1 + into.len();
@@ -192,12 +183,12 @@ impl NodeStore for Flat {
     }
 
     fn held(&self, closing: Closing) -> Result<u32, Refusal> {
-        self.limits.admit_closing(closing)?;
+        self.extent.limits.admit_closing(closing)?;
         Ok(self.count(closing))
     }
 
     fn clear(&mut self, closing: Closing) -> Result<(), Refusal> {
-        self.limits.admit_closing(closing)?;
+        self.extent.limits.admit_closing(closing)?;
         let n = self.count(closing);
         let base = self.slot(Key {
             closing,
@@ -206,8 +197,8 @@ impl NodeStore for Flat {
         clear_marks(
             &mut self.memory,
             base,
-            self.limits.width + 1,
-            self.limits.bound as usize - 1,
+            self.extent.limits.width + 1,
+            self.extent.limits.bound as usize - 1,
         );
         self.room += n as u64;
         Ok(())
@@ -218,6 +209,6 @@ impl NodeStore for Flat {
     }
 
     fn limits(&self) -> Limits {
-        self.limits
+        self.extent.limits
     }
 }

@@ -1,6 +1,7 @@
 -- Counts of what passes below a number, and sums.
-use Rattle.std.proofs.Common.{◌≡◌, ℕ, zero, suc, ◌+◌, ◌*◌, ◌<◌, ◌≤◌, Bool, true, false, cond, not, ◌≢◌, sym, refl, ap, inl, inr, suc-mul, zero-mul, add-one, arith}
+use Rattle.std.proofs.Common.{List, ◌∷◌, length, zero-add, ◌≡◌, ℕ, zero, suc, ◌+◌, ◌*◌, ◌<◌, ◌≤◌, Bool, true, false, cond, not, ◌≢◌, sym, refl, ap, inl, inr, suc-mul, zero-mul, add-one, arith}
 use Rattle.std.proofs.lemmas.Bool.{cases_eq}
+use Rattle.std.specs.List.{filter, range_with_len}
 use Rattle.store.specs.Counts.{tally, sum_to}
 
 pub tally_more : (f : ℕ → Bool) (n : ℕ) → tally f (n + 1) ≡ tally f n + cond (f n) 1 0
@@ -105,3 +106,20 @@ sum_to_lt f (suc n) b k h l s =
       | inl e ↦ omega (arith, sum_to_le f n b h, ap f e, suc-mul n b)
       | inr d ↦ omega (arith, sum_to_lt f n b k h (omega arith) s, h n, suc-mul n b)
     ]
+
+-- the first of them
+tally_front : (f : ℕ → Bool) (n : ℕ) → tally f (suc n) ≡ bit (f 0) + tally (λ k. f (suc k)) n
+tally_front f zero = omega arith
+tally_front f (suc n) = omega (arith, tally_front f n)
+
+-- those that pass of the n numbers from a on
+pub tally_kept : (f : ℕ → Bool) (a n : ℕ) → length (filter f (range_with_len a n)) ≡ tally (λ k. f (k + a)) n
+tally_kept f a zero = refl
+tally_kept f a (suc n) =
+    let more : length (filter f (a ∷ range_with_len (a + 1) n)) ≡ bit (f a) + length (filter f (range_with_len (a + 1) n)) = kept_first (f a) a (filter f (range_with_len (a + 1) n)) in
+    let later : tally (λ k. f (suc k + a)) n ≡ tally (λ k. f (k + (a + 1))) n = tally_same _ _ n (λ k _. ap f (omega arith)) in
+    omega (arith, more, later, tally_kept f (a + 1) n, tally_front (λ k. f (k + a)) n, ap (λ b. bit (f b)) (zero-add a))
+  where
+    kept_first : (b : Bool) (x : ℕ) (xs : List ℕ) → length (cond b (x ∷ xs) xs) ≡ bit b + length xs
+    kept_first true x xs = omega arith
+    kept_first false x xs = omega arith

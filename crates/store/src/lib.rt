@@ -4,10 +4,9 @@
 //! `NodeStore` over its own representation; nothing above this crate may use more than the contracts here say.
 #![tactic(auto)]
 
-ghost use Rattle.std.specs.Prelude.{◌≡◌, ℕ, ◌<◌, ◌≤◌, not, [], ◌∷◌, length, ◌==◌};
-ghost use Rattle.refusal.specs.declared.cases.Refusal.TheVariants.{KeyOutside, WrongWidth};
-ghost use Rattle.refusal.specs.Tables.{◌⇒◌, first as decides, Answers};
-ghost use Rattle.store.specs.Meaning.{Meaning, Sound, spans, holds_key, valid_limits};
+ghost use Rattle.std.specs.Prelude.{◌≡◌, length};
+ghost use Rattle.refusal.specs.Tables.{Answers};
+ghost use Rattle.store.specs.Meaning.{Meaning, Sound};
 ghost use Rattle.store.specs.Counts.{held as held_in};
 ghost use Rattle.store.specs.Calls.{put_refusal, get_refusal, held_refusal, clear_refusal, Put, Cleared, Got, Refused};
 
@@ -16,48 +15,6 @@ pub mod limits;
 use limits::Limits;
 use numbering::{Closing, Key};
 use refusal::cases::Refusal;
-
-impl Limits {
-    // Whether a store may have these limits.
-    pub fn valid(self) -> bool
-        ensures { result ≡ valid_limits self.width self.first self.last self.bound }
-    {
-        1 <= self.width
-            && self.width <= 128
-            && 1 <= self.first
-            && self.first <= self.last
-            && self.last <= 9999
-            && 2 <= self.bound
-            && self.bound <= 2_097_152
-    }
-
-    // Whether a record of n bytes can be kept under the key.
-    pub fn admit(self, key: Key, n: usize) -> Result<(), Refusal>
-        ensures { Answers result
-            (decides ((not (holds_key self.first self.last self.bound key.closing.0 key.place.0) ⇒ KeyOutside) ∷ (not (n == self.width) ⇒ WrongWidth) ∷ []))
-            (λ _. Unit {0}) }
-    {
-        let c = key.closing.0;
-        let p = key.place.0;
-        if c < self.first || self.last < c || p < 1 || self.bound <= p {
-            return Err(Refusal::KeyOutside);
-        }
-        if n != self.width {
-            return Err(Refusal::WrongWidth);
-        }
-        Ok(())
-    }
-
-    // Whether the closing is in the span.
-    pub fn admit_closing(self, closing: Closing) -> Result<(), Refusal>
-        ensures { Answers result (decides ((not (spans self.first self.last closing.0) ⇒ KeyOutside) ∷ [])) (λ _. Unit {0}) }
-    {
-        if closing.0 < self.first || self.last < closing.0 {
-            return Err(Refusal::KeyOutside);
-        }
-        Ok(())
-    }
-}
 
 pub trait NodeStore {
     ghost meaning: { Self → Meaning };

@@ -8,7 +8,7 @@ pub overflow_mul-result-2 : goal.overflow_mul-result-2
 unfolding slot_of
 overflow_mul-result-2 c =
     let s = c.args.self.now in
-    let n = s.limits in
+    let n = s.extent.limits in
     let i = key_out n.first n.last n.bound c.args.key.closing.0 c.args.key.place.0 c.requires in
     omega (arith, slot_fits n.width n.first n.last n.bound c.args.key.closing.0 c.args.key.place.0 i.0 i.1 i.3, s.fits, s.memory.ok.1, s.memory.small)
 
@@ -16,6 +16,6 @@ pub returns : goal.returns
 unfolding slot_of
 returns c =
     let s = c.args.self.now in
-    let n = s.limits in
+    let n = s.extent.limits in
     let i = key_out n.first n.last n.bound c.args.key.closing.0 c.args.key.place.0 c.requires in
     record { is = refl; fits = omega (arith, slot_fits n.width n.first n.last n.bound c.args.key.closing.0 c.args.key.place.0 i.0 i.1 i.3, s.fits) }
