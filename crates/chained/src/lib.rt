@@ -5,112 +5,88 @@
 //! gets, may be changed here, as long as the contracts of `NodeStore` and of `new` stay.
 #![tactic(auto)]
 
-ghost use Rattle.std.specs.Prelude.{◌≡◌, ℕ, ◌+◌, ◌<◌, ◌≤◌, true, length, if◌then◌else◌, Some, None, vec_len, nat_eq, slice_index};
+ghost use Rattle.std.specs.Prelude.{◌≡◌, ℕ, ◌+◌, ◌<◌, ◌≤◌, true, length, Some, None, vec_len, ◌≢◌, slice_index};
 ghost use Rattle.refusal.specs.declared.cases.Refusal.TheVariants.{MemoryUnfit};
 ghost use Rattle.refusal.specs.Tables.{Answers};
-ghost use Rattle.memory.specs.Four.{be4, put4};
-ghost use Rattle.memory.specs.Part.{part, patch};
-ghost use Rattle.store.specs.Meaning.{spans, holds_key};
+ghost use Rattle.store.specs.Meaning.{in_span, inside};
 ghost use Rattle.store.specs.Counts.{held as held_in};
 ghost use Rattle.store.specs.Calls.{Put, Cleared, Empty};
-ghost use Rattle.chained_theory.specs.Layout.{start_of, next_at, head_at, closing_at, place_at, has_key, seek_in, count_of, filled, push_on, without, home_of, front_of, chained_bytes, chained_refusal};
+ghost use Rattle.chained_theory.specs.Layout.{start_of, next_at, head_at, count_of, filled, push_on, without, bucket_of, home_of, front_of, chained_bytes};
 ghost use Rattle.chained_theory.specs.Links.{Laid, Forgot};
-ghost use Rattle.chained.specs.Meaning.{chained_meaning};
+ghost use Rattle.chained.specs.Sizes.{refusal_of};
+ghost use Rattle.chained.specs.Meaning.{chained_meaning, IsEmpty, sought};
+ghost use Rattle.chained.specs.Records.{IsRecord};
+ghost use Rattle.chained.specs.Forgets.{every, which};
 ghost use Rattle.chained.specs.Sounds.{chained_sound};
 
+pub(crate) mod bytes;
+pub(crate) mod records;
 pub mod types;
 
-use numbering::{Closing, Key};
+use bytes::{read4, start, write_part, write4};
+use numbering::{Closing, Key, Place};
+use records::Record;
 use refusal::cases::Refusal;
 use store::NodeStore;
-use store::limits::Limits;
+use store::limits::{Extent, Limits};
 use types::Chained;
 
-// The number of four bytes at `at`.
-fn read4(memory: &[u8], at: usize) -> u32
-    requires { at + 4 ≤ length memory.now }
-    ensures { result ≡ be4 memory.now at }
+// The chain of a key's bucket.
+fn bucket(key: Key) -> usize
+    ensures { result ≡ bucket_of key.closing.0 key.place.0 }
 {
-    u32::from_be_bytes([memory[at], memory[at + 1], memory[at + 2], memory[at + 3]])
+    ((key.closing.0 % 16 + key.place.0 % 16) % 16 + 1) as usize
 }
 
-fn write4(memory: &mut [u8], at: usize, n: u32)
-    requires { at + 4 ≤ length memory.old }
-    ensures { memory.new ≡ put4 memory.old at n }
+// The chain of a record with this key: the free one where the closing is 0.
+fn home(key: Key) -> usize
+    ensures { result ≡ home_of key.closing.0 key.place.0 }
 {
-    let [a, b, c, d] = n.to_be_bytes();
-    memory[at] = a;
-    memory[at + 1] = b;
-    memory[at + 2] = c;
-    memory[at + 3] = d;
+    if key.closing.0 == 0 { 0 } else { bucket(key) }
 }
 
-// Writes bytes over those from `at` on.
-fn write_part(memory: &mut [u8], at: usize, bytes: &[u8])
-    requires { at + length bytes.now ≤ length memory.old }
-    ensures { memory.new ≡ patch memory.old at bytes.now }
-{
-    let end = at + bytes.len();
-    memory[at..end].copy_from_slice(bytes);
-}
-
-fn write_in(memory: &mut Vec<u8>, at: usize, bytes: &[u8])
-    requires { at + length bytes.now ≤ vec_len memory.old }
-    ensures items { memory.new.items ≡ patch memory.old.items at bytes.now }
-    ensures len { vec_len memory.new ≡ vec_len memory.old }
-{
-    write_part(memory, at, bytes);
-}
-
-fn fill_record(memory: &mut [u8], at: usize, next: u32, c: u32, p: u32, bytes: &[u8])
+fn fill_record(memory: &mut [u8], at: usize, next: u32, key: Key, bytes: &[u8])
     requires { at + 12 + length bytes.now ≤ length memory.old }
-    ensures { memory.new ≡ filled memory.old at next c p bytes.now }
+    ensures { memory.new ≡ filled memory.old at next key.closing.0 key.place.0 bytes.now }
 {
     write4(memory, at, next);
-    write4(memory, at + 4, c);
-    write4(memory, at + 8, p);
+    write4(memory, at + 4, key.closing.0);
+    write4(memory, at + 8, key.place.0);
     write_part(memory, at + 12, bytes);
 }
 
-// Moves record x, which starts at `at`, from the front of the free chain to the front of chain b.
-fn push_on(memory: &mut [u8], at: usize, x: u32, b: usize, c: u32, p: u32, bytes: &[u8])
-    requires fits { at + 12 + length bytes.now ≤ length memory.old }
-    requires past { 68 ≤ at }
-    requires bucket { b < 17 }
-    ensures { (w : ℕ) → at ≡ start_of w x → memory.new ≡ push_on memory.old w x b c p bytes.now }
+// Moves a record from the front of the free chain to the front of the key's bucket.
+fn push_on(memory: &mut [u8], number: u32, key: Key, bytes: &[u8])
+    requires narrow { length bytes.now ≤ 128 }
+    requires few { (1 ≤ number) × (number ≤ 4194304) }
+    requires fits { start_of (length bytes.now) number + (12 + length bytes.now) ≤ length memory.old }
+    ensures { memory.new ≡ push_on memory.old (length bytes.now) number (bucket_of key.closing.0 key.place.0) key.closing.0 key.place.0 bytes.now }
 {
+    let at = start(bytes.len(), number);
+    let head = 4 * bucket(key);
     let next = read4(memory, at);
-    let head = read4(memory, 4 * b);
-    fill_record(memory, at, head, c, p, bytes);
+    let follower = read4(memory, head);
+    fill_record(memory, at, follower, key, bytes);
     write4(memory, 0, next);
-    write4(memory, 4 * b, x);
+    write4(memory, head, number);
 }
 
-fn push_in(memory: &mut Vec<u8>, at: usize, x: u32, b: usize, c: u32, p: u32, bytes: &[u8])
-    requires fits { at + 12 + length bytes.now ≤ vec_len memory.old }
-    requires past { 68 ≤ at }
-    requires bucket { b < 17 }
-    ensures items { (w : ℕ) → at ≡ start_of w x → memory.new.items ≡ push_on memory.old.items w x b c p bytes.now }
-    ensures len { vec_len memory.new ≡ vec_len memory.old }
-{
-    push_on(memory, at, x, b, c, p, bytes);
+// Which records are free once the chains are laid out anew.
+#[derive(Clone, Copy)]
+enum Forgotten {
+    Every,
+    Of(Closing),
 }
 
-// A record's closing, once closing c, or every closing, is forgotten.
-fn kept(k: u32, c: u32, every: bool) -> u32
-    ensures { result ≡ without every c k }
-{
-    if every || k == c { 0 } else { k }
-}
-
-// The chain of a record with closing k and place p: 0, the free one, where k is 0.
-fn home(k: u32, p: u32) -> usize
-    ensures { result ≡ home_of k p }
-{
-    if k == 0 {
-        0
-    } else {
-        ((k % 16 + p % 16) % 16 + 1) as usize
+impl Forgotten {
+    // What a record's closing becomes.
+    fn left(self, closing: u32) -> u32
+        ensures { result ≡ without (every self) (which self) closing }
+    {
+        match self {
+            Forgotten::Of(gone) if closing != gone.0 => closing,
+            _ => 0,
+        }
     }
 }
 
@@ -120,129 +96,100 @@ fn zero_heads(memory: &mut [u8])
     ensures zero { (j : ℕ) → j < 17 → head_at memory.new j ≡ 0 }
     ensures rest { (k : ℕ) → 68 ≤ k → slice_index memory.new k ≡ slice_index memory.old k }
 {
-    for j in 0..17usize {
-        write4(memory, 4 * j, 0);
-    }
+    memory[..68].fill(0);
 }
 
-// Puts record x, which starts at `at`, in front of chain b, with k for its closing.
-fn front_of(memory: &mut [u8], at: usize, x: u32, b: usize, k: u32)
+// Puts a record, which starts at `at`, in front of a chain, with this closing.
+fn front_of(memory: &mut [u8], at: usize, number: u32, chain: usize, closing: u32)
     requires fits { at + 8 ≤ length memory.old }
     requires past { 68 ≤ at }
-    requires bucket { b < 17 }
-    ensures { memory.new ≡ front_of memory.old at x b k }
+    requires bucket { chain < 17 }
+    ensures { memory.new ≡ front_of memory.old at number chain closing }
 {
-    write4(memory, at + 4, k);
-    let head = read4(memory, 4 * b);
+    write4(memory, at + 4, closing);
+    let head = read4(memory, 4 * chain);
     write4(memory, at, head);
-    write4(memory, 4 * b, x);
+    write4(memory, 4 * chain, number);
 }
 
-// n, and one more where the closing k is c.
-fn tallied(n: u32, k: u32, c: u32) -> u32
-    requires { n < 4194304 }
-    ensures { result ≡ n + (if nat_eq k c then 1 else 0) }
-{
-    if k == c { n + 1 } else { n }
-}
-
-// Lays the chains out anew from the records alone, without those of closing c, or without all. One walk over the
-// records, which answers how many were of closing c.
-fn relay(memory: &mut [u8], width: usize, count: u32, every: bool, c: u32) -> u32
+// Lays the chains out anew from the records alone, without those that are forgotten. One walk over the records, which
+// answers how many are free now.
+#[tactic(auto, using(chained_theory::proofs::Walks::record_fits, chained_theory::proofs::Writes::past_heads, chained_theory::proofs::Fronts::home_high))]
+fn relay(memory: &mut [u8], width: usize, count: u32, forgotten: Forgotten) -> u32
     requires narrow { (width ≤ 128) × (count ≤ 4194304) }
     requires fits { chained_bytes width count ≤ length memory.old }
-    ensures is { result ≡ count_of memory.old width count c }
+    ensures is { result ≡ count_of memory.new width count 0 }
     ensures laid { Laid memory.new width count }
     ensures nexts { (y : ℕ) → 1 ≤ y → y ≤ count → next_at memory.new width y ≤ count }
-    ensures forgot { Forgot memory.old memory.new width count count every c }
+    ensures forgot { Forgot memory.old memory.new width count count (every forgotten) (which forgotten) }
 {
     zero_heads(memory);
-    let mut at = 68;
-    let mut n = 0;
+    let mut free = 0;
     for i in 0..count {
-        let closing = read4(memory, at + 4);
-        n = tallied(n, closing, c);
-        let k = kept(closing, c, every);
-        let b = home(k, read4(memory, at + 8));
-        front_of(memory, at, i + 1, b, k);
-        at += 12 + width;
+        let at = start(width, i + 1);
+        let closing = forgotten.left(read4(memory, at + 4));
+        let chain = home(Key {
+            closing: Closing(closing),
+            place: Place(read4(memory, at + 8)),
+        });
+        front_of(memory, at, i + 1, chain, closing);
+        free += u32::from(closing == 0);
     }
-    n
+    free
 }
 
-fn relay_in(memory: &mut Vec<u8>, width: usize, count: u32, every: bool, c: u32) -> u32
-    requires narrow { (width ≤ 128) × (count ≤ 4194304) }
-    requires fits { chained_bytes width count ≤ vec_len memory.old }
-    ensures is { result ≡ count_of memory.old.items width count c }
-    ensures len { vec_len memory.new ≡ vec_len memory.old }
-    ensures laid { Laid memory.new.items width count }
-    ensures nexts { (y : ℕ) → 1 ≤ y → y ≤ count → next_at memory.new.items width y ≤ count }
-    ensures forgot { Forgot memory.old.items memory.new.items width count count every c }
+// The extent of a store with these limits, where it fits in so many bytes with so many records.
+fn fitting(limits: Limits, count: u32, memory: usize) -> Result<Extent, Refusal>
+    ensures { Answers result (refusal_of limits count memory) (λ extent. extent.limits ≡ limits) }
 {
-    relay(memory, width, count, every, c)
-}
-
-// Whether a store with these limits and so many records fits in so many bytes.
-pub fn measure(limits: Limits, count: u32, memory: usize) -> Result<(), Refusal>
-    ensures { Answers result (chained_refusal limits.width limits.first limits.last limits.bound count memory) (λ _. Unit {0}) }
-{
-    if !limits.valid() || count < 1 || 4_194_304 < count {
-        return Err(Refusal::MemoryUnfit);
-    }
-    if 68 + count as usize * (12 + limits.width) <= memory {
-        Ok(())
+    let extent = Extent::new(limits)?;
+    if (1..=4_194_304).contains(&count) && 68 + count as usize * (12 + limits.width) <= memory {
+        Ok(extent)
     } else {
         Err(Refusal::MemoryUnfit)
     }
 }
 
+// Whether a store with these limits and so many records fits in so many bytes.
+pub fn measure(limits: Limits, count: u32, memory: usize) -> Result<(), Refusal>
+    ensures { Answers result (refusal_of limits count memory) (λ _. Unit {0}) }
+{
+    fitting(limits, count, memory)?;
+    Ok(())
+}
+
 impl Chained {
     // A store in which nothing is written; one with an empty span where measuring refuses.
     pub fn new(memory: Vec<u8>, limits: Limits, count: u32) -> Chained
-        ensures fit { chained_refusal limits.width limits.first limits.last limits.bound count (vec_len memory) ≡ None
-            → Empty (chained_meaning result) limits.width limits.first limits.last limits.bound count }
-        ensures unfit { chained_refusal limits.width limits.first limits.last limits.bound count (vec_len memory) ≡ Some MemoryUnfit
-            → Empty (chained_meaning result) 1 1 0 2 0 }
+        ensures fit { refusal_of limits count (vec_len memory) ≡ None → IsEmpty result limits count }
+        ensures unfit { refusal_of limits count (vec_len memory) ≡ Some MemoryUnfit → Empty (chained_meaning result) 1 1 0 2 0 }
         ensures kept { vec_len result.memory ≡ vec_len memory }
     {
-        match measure(limits, count, memory.len()) {
-            Err(_) => Chained::shut(memory),
-            Ok(()) => Chained::emptied(memory, limits, count),
-        }
-    }
-
-    // The store on a memory that does not fit.
-    fn shut(memory: Vec<u8>) -> Chained
-        ensures is { Empty (chained_meaning result) 1 1 0 2 0 }
-        ensures kept { vec_len result.memory ≡ vec_len memory }
-    {
-        let limits = Limits {
-            width: 1,
-            first: 1,
-            last: 0,
-            bound: 2,
-        };
-        Chained {
-            memory,
-            limits,
-            count: 0,
-            room: 0,
+        match fitting(limits, count, memory.len()) {
+            Ok(extent) => Chained::emptied(memory, extent, count),
+            Err(_) => Chained {
+                memory,
+                extent: Extent::empty(),
+                count: 0,
+                room: 0,
+            },
         }
     }
 
     // The store on a memory that fits, with every record free.
-    fn emptied(memory: Vec<u8>, limits: Limits, count: u32) -> Chained
-        requires { chained_refusal limits.width limits.first limits.last limits.bound count (vec_len memory) ≡ None }
-        ensures is { Empty (chained_meaning result) limits.width limits.first limits.last limits.bound count }
+    fn emptied(mut memory: Vec<u8>, extent: Extent, count: u32) -> Chained
+        requires few { (1 ≤ count) × (count ≤ 4194304) }
+        requires some { extent.limits.first ≤ extent.limits.last }
+        requires fits { chained_bytes extent.limits.width count ≤ vec_len memory }
+        ensures is { IsEmpty result extent.limits count }
         ensures kept { vec_len result.memory ≡ vec_len memory }
     {
-        let mut memory = memory;
-        let _ = relay_in(&mut memory, limits.width, count, true, 0);
+        let room = relay(&mut memory, extent.limits.width, count, Forgotten::Every);
         Chained {
             memory,
-            limits,
+            extent,
             count,
-            room: count,
+            room,
         }
     }
 
@@ -253,146 +200,86 @@ impl Chained {
         self.memory
     }
 
-    // Where record i starts.
-    fn at(&self, i: u32) -> usize
-        requires { (1 ≤ i) × (i ≤ self.now.count) }
-        ensures is { result ≡ start_of self.now.limits.width i }
-        ensures fits { result + (12 + self.now.limits.width) ≤ vec_len self.now.memory }
+    // The first record of a chain.
+    #[tactic(auto, unfolding(chained_theory::specs::Layout::head_at))]
+    fn first(&self, chain: usize) -> Option<Record<'_>>
+        requires { (chain < 17) × (1 ≤ self.now.count) }
+        ensures { IsRecord result self.now (head_at self.now.memory.items chain) }
     {
-        68 + (i as usize - 1) * (12 + self.limits.width)
+        Record::at(self, read4(&self.memory, 4 * chain))
     }
 
-    fn next(&self, i: u32) -> u32
-        requires { (1 ≤ i) × (i ≤ self.now.count) }
-        ensures { result ≡ next_at self.now.memory.items self.now.limits.width i }
+    // The record with the key: a walk along its bucket's chain, which has `count` records at most.
+    fn seek(&self, key: Key) -> Option<Record<'_>>
+        requires { inside (chained_meaning self.now) key.closing.0 key.place.0 ≡ true }
+        ensures { IsRecord result self.now (sought self.now key.closing.0 key.place.0) }
     {
-        read4(&self.memory, self.at(i))
-    }
-
-    fn closing(&self, i: u32) -> u32
-        requires { (1 ≤ i) × (i ≤ self.now.count) }
-        ensures { result ≡ closing_at self.now.memory.items self.now.limits.width i }
-    {
-        read4(&self.memory, self.at(i) + 4)
-    }
-
-    fn place(&self, i: u32) -> u32
-        requires { (1 ≤ i) × (i ≤ self.now.count) }
-        ensures { result ≡ place_at self.now.memory.items self.now.limits.width i }
-    {
-        read4(&self.memory, self.at(i) + 8)
-    }
-
-    // The first record of chain j.
-    fn head(&self, j: usize) -> u32
-        requires { (j < 17) × (1 ≤ self.now.count) }
-        ensures { result ≡ head_at self.now.memory.items j }
-    {
-        read4(&self.memory, 4 * j)
-    }
-
-    fn has_key(&self, i: u32, c: u32, p: u32) -> bool
-        requires { (1 ≤ i) × (i ≤ self.now.count) }
-        ensures { result ≡ has_key self.now.memory.items self.now.limits.width i c p }
-    {
-        self.closing(i) == c && self.place(i) == p
-    }
-
-    // The record with the key, or 0: a walk along its bucket's chain.
-    fn seek(&self, c: u32, p: u32) -> u32
-        requires { (c ≤ 9999) × (p ≤ 2097152) }
-        ensures is { result ≡ seek_in self.now.memory.items self.now.limits.width self.now.count c p }
-        ensures within { result ≤ self.now.count }
-    {
-        let mut left = self.count;
-        if left == 0 {
-            return 0;
-        }
-        let mut i = self.head(((c + p) % 16 + 1) as usize);
-        while left > 0 {
-            if i == 0 {
-                return 0;
+        let mut next = self.first(bucket(key));
+        for _ in 0..self.count {
+            let record = next?;
+            if record.has(key) {
+                return next;
             }
-            if self.has_key(i, c, p) {
-                return i;
-            }
-            i = self.next(i);
-            left -= 1;
+            next = record.next();
         }
-        0
+        None
     }
 
-    // How many records have the closing: a walk over the records.
-    fn count_of(&self, c: u32) -> u32
-        ensures is { result ≡ count_of self.now.memory.items self.now.limits.width self.now.count c }
-        ensures within { result ≤ self.now.count }
+    // How many places of a closing are written: a walk over the records.
+    fn count(&self, closing: Closing) -> u32
+        requires { in_span (chained_meaning self.now) closing.0 ≡ true }
+        ensures { result ≡ held_in (chained_meaning self.now) closing.0 }
     {
-        let mut n = 0;
-        for k in 0..self.count {
-            if self.closing(k + 1) == c {
-                n += 1;
-            }
-        }
-        n
+        let is_of = |number: &u32| Record::new(self, *number).closing() == closing.0;
+        (1..self.count + 1).filter(is_of).count() as u32
+    }
+
+    // The first free record's number.
+    #[tactic(auto, unfolding(chained_theory::specs::Layout::head_at))]
+    fn free(&self) -> u32
+        requires { 1 ≤ self.now.room }
+        ensures is { result ≡ head_at self.now.memory.items 0 }
+        ensures within { (1 ≤ result) × (result ≤ self.now.count) }
+    {
+        read4(&self.memory, 0)
     }
 
     // Puts a record under a key that has none.
     fn push(&mut self, key: Key, bytes: &[u8])
-        requires inside { holds_key self.old.limits.first self.old.limits.last self.old.limits.bound key.closing.0 key.place.0 ≡ true }
-        requires wide { length bytes.now ≡ self.old.limits.width }
-        requires absent { seek_in self.old.memory.items self.old.limits.width self.old.count key.closing.0 key.place.0 ≡ 0 }
+        requires inside { inside (chained_meaning self.old) key.closing.0 key.place.0 ≡ true }
+        requires wide { length bytes.now ≡ self.old.extent.limits.width }
+        requires absent { sought self.old key.closing.0 key.place.0 ≡ 0 }
         requires some { 1 ≤ self.old.room }
         ensures { Put (chained_meaning self.old) (chained_meaning self.new) key.closing.0 key.place.0 bytes.now }
     {
-        let c = key.closing.0;
-        let p = key.place.0;
-        let x = self.head(0);
-        let at = self.at(x);
-        push_in(
-            &mut self.memory,
-            at,
-            x,
-            ((c + p) % 16 + 1) as usize,
-            c,
-            p,
-            bytes,
-        );
+        let number = self.free();
+        push_on(&mut self.memory, number, key, bytes);
         self.room -= 1;
     }
 
-    // Writes over record i, which the key has.
-    fn overwrite(&mut self, i: u32, key: Key, bytes: &[u8])
-        requires inside { holds_key self.old.limits.first self.old.limits.last self.old.limits.bound key.closing.0 key.place.0 ≡ true }
-        requires wide { length bytes.now ≡ self.old.limits.width }
-        requires is { i ≡ seek_in self.old.memory.items self.old.limits.width self.old.count key.closing.0 key.place.0 }
-        requires found { (1 ≤ i) × (i ≤ self.old.count) }
+    // Writes over the record that the key has, which starts at `at`.
+    fn overwrite(&mut self, at: usize, key: Key, bytes: &[u8])
+        requires inside { inside (chained_meaning self.old) key.closing.0 key.place.0 ≡ true }
+        requires wide { length bytes.now ≡ self.old.extent.limits.width }
+        requires found { sought self.old key.closing.0 key.place.0 ≢ 0 }
+        requires is { at ≡ start_of self.old.extent.limits.width (sought self.old key.closing.0 key.place.0) }
+        requires fits { at + (12 + self.old.extent.limits.width) ≤ vec_len self.old.memory }
         ensures { Put (chained_meaning self.old) (chained_meaning self.new) key.closing.0 key.place.0 bytes.now }
     {
-        let at = self.at(i);
-        write_in(&mut self.memory, at + 12, bytes);
-    }
-
-    // How many places of a closing are written.
-    fn count(&self, closing: u32) -> u32
-        requires { spans self.now.limits.first self.now.limits.last closing ≡ true }
-        ensures { result ≡ held_in (chained_meaning self.now) closing }
-    {
-        self.count_of(closing)
+        write_part(&mut self.memory, at + 12, bytes);
     }
 
     // Forgets a closing.
-    fn forget(&mut self, closing: u32)
-        requires { spans self.old.limits.first self.old.limits.last closing ≡ true }
-        ensures { Cleared (chained_meaning self.old) (chained_meaning self.new) closing }
+    fn forget(&mut self, closing: Closing)
+        requires { in_span (chained_meaning self.old) closing.0 ≡ true }
+        ensures { Cleared (chained_meaning self.old) (chained_meaning self.new) closing.0 }
     {
-        let n = relay_in(
+        self.room = relay(
             &mut self.memory,
-            self.limits.width,
+            self.extent.limits.width,
             self.count,
-            false,
-            closing,
+            Forgotten::Of(closing),
         );
-        self.room += n;
     }
 }
 
@@ -402,10 +289,10 @@ impl NodeStore for Chained {
     ghost sound = { chained_sound };
 
     fn put(&mut self, key: Key, bytes: &[u8]) -> Result<(), Refusal> {
-        self.limits.admit(key, bytes.len())?;
-        let i = self.seek(key.closing.0, key.place.0);
-        if i != 0 {
-            self.overwrite(i, key, bytes);
+        self.extent.limits.admit(key, bytes.len())?;
+        if let Some(record) = self.seek(key) {
+            let at = record.start();
+            self.overwrite(at, key, bytes);
             return Ok(());
         }
         if self.room == 0 {
@@ -416,25 +303,22 @@ impl NodeStore for Chained {
     }
 
     fn get(&mut self, key: Key, into: &mut [u8]) -> Result<bool, Refusal> {
-        self.limits.admit(key, into.len())?;
-        let i = self.seek(key.closing.0, key.place.0);
-        if i == 0 {
+        self.extent.limits.admit(key, into.len())?;
+        let Some(record) = self.seek(key) else {
             return Ok(false);
-        }
-        let start = self.at(i) + 12;
-        let end = start + into.len();
-        into.copy_from_slice(&self.memory[start..end]);
+        };
+        into.copy_from_slice(record.bytes());
         Ok(true)
     }
 
     fn held(&self, closing: Closing) -> Result<u32, Refusal> {
-        self.limits.admit_closing(closing)?;
-        Ok(self.count(closing.0))
+        self.extent.limits.admit_closing(closing)?;
+        Ok(self.count(closing))
     }
 
     fn clear(&mut self, closing: Closing) -> Result<(), Refusal> {
-        self.limits.admit_closing(closing)?;
-        self.forget(closing.0);
+        self.extent.limits.admit_closing(closing)?;
+        self.forget(closing);
         Ok(())
     }
 
@@ -443,6 +327,6 @@ impl NodeStore for Chained {
     }
 
     fn limits(&self) -> Limits {
-        self.limits
+        self.extent.limits
     }
 }

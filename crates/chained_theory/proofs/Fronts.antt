@@ -132,8 +132,8 @@ module _ (mem mem' : List ℕ) (w n i k : ℕ) (laid : Laid mem w i) (less : i <
   same : (y : ℕ) → 1 ≤ y → y ≤ i → (y ≡ suc i → ⊥) → SameRecord mem mem' w y
   same y a h d = u.others y a (omega arith) d
 
-  counts : count_of mem' w (suc i) 0 ≡ count_of mem w i 0 + cond (eqb k 0) 1 0
-  counts =
+  pub more_counts : count_of mem' w (suc i) 0 ≡ count_of mem w i 0 + cond (eqb k 0) 1 0
+  more_counts =
       let f : ℕ → Bool = λ j. eqb (closing_at mem w (j + 1)) 0 in
       let g : ℕ → Bool = λ j. eqb (closing_at mem' w (j + 1)) 0 in
       let top : closing_at mem' w (i + 1) ≡ k = ap (closing_at mem' w) (add-one i) ∙ u.closing in
@@ -170,7 +170,7 @@ module _ (mem mem' : List ℕ) (w n i k : ℕ) (laid : Laid mem w i) (less : i <
     live = laid.live;
     lives = λ a e. home_live k (place_at mem w (suc i)) a (sym u.closing ∙ e);
     whole = omega (arith, laid.whole);
-    rooms = omega (arith, laid.rooms, counts, home_bit k (place_at mem w (suc i)));
+    rooms = omega (arith, laid.rooms, more_counts, home_bit k (place_at mem w (suc i)));
     scans = scans';
   })
 

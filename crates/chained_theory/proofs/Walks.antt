@@ -2,9 +2,9 @@
 use Rattle.std.proofs.Common.{◌≡◌, ℕ, zero, suc, ◌+◌, ◌-◌, ◌*◌, ◌<◌, ◌≤◌, true, false, cond, not, eqb, List, length, is_some, Some, None, sym, refl, ap, ◌∙◌, inl, inr, mul-le-mul_right, add-mul, one-mul, arith, length-drop, length-take}
 use Rattle.memory.specs.Part.{part}
 use Rattle.std.proofs.lemmas.Bool.{cases_eq, cases_Bool, cond-true, cond-false, eq-eqb, ne_eqb, both_ways}
-use Rattle.store.specs.Meaning.{holds_key}
+use Rattle.store.specs.Meaning.{Sound, holds_key}
 use Rattle.store.proofs.Inside.{key_out, key_in}
-use Rattle.chained_theory.specs.Layout.{start_of, next_at, head_at, bucket_of, has_key, seek_from, seek_in, chained_find, record_at}
+use Rattle.chained_theory.specs.Layout.{start_of, next_at, head_at, bucket_of, has_key, seek_from, seek_in, chained_bytes, chained_find, chained_of, record_at}
 
 pub next_record : (i j k : ℕ) → i < j → i * k + k ≤ j * k
 next_record i j k h = omega (arith, add-mul i 1 k, one-mul k, mul-le-mul_right {m = i + 1} {n = j} k (omega arith))
@@ -12,10 +12,6 @@ next_record i j k h = omega (arith, add-mul i 1 k, one-mul k, mul-le-mul_right {
 pub record_fits : (w n i : ℕ) → 1 ≤ i → i ≤ n → start_of w i + (12 + w) ≤ 68 + n * (12 + w)
 unfolding start_of
 record_fits w n i a b = omega (arith, next_record (i - 1) n (12 + w) (omega arith))
-
-pub seek_none : (mem : List ℕ) (w n i c p : ℕ) → i ≡ 0 → seek_from mem w n i c p ≡ 0
-seek_none mem w zero i c p e = refl
-seek_none mem w (suc n) i c p e = cond-true (eqb i 0) 0 _ (eq-eqb i 0 e)
 
 pub seek_out : (mem : List ℕ) (w n i c p : ℕ) → n ≡ 0 → seek_from mem w n i c p ≡ 0
 seek_out mem w zero i c p e = refl
@@ -35,12 +31,6 @@ isSome_chained_find mem w n f l b c p h =
     let t : holds_key f l b c p ≡ true = key_in f l b c p h.0 h.1 h.2 h.3 in
     ap is_some (cond-true (holds_key f l b c p) (record_at mem w (seek_in mem w n c p)) None t)
     ∙ elim (eqb (seek_in mem w n c p) 0) as (λ v. is_some (cond v None (Some (part mem (start_of w (seek_in mem w n c p) + 12) w))) ≡ not v) [ true ↦ refl | false ↦ refl ]
-
-pub rec_next : (w i : ℕ) → 1 ≤ i → start_of w i + (12 + w) ≡ start_of w (i + 1)
-unfolding start_of
-rec_next w i a =
-    let e : i + 1 - 1 ≡ i - 1 + 1 = omega arith in
-    omega (arith, add-mul (i - 1) 1 (12 + w), one-mul (12 + w), ap (λ z. z * (12 + w)) e)
 
 -- what a walk comes to has the key, and lies within
 pub seek_has : (mem : List ℕ) (w n fuel i c p : ℕ) → i ≤ n → ((y : ℕ) → 1 ≤ y → y ≤ n → next_at mem w y ≤ n) → seek_from mem w fuel i c p ≤ n
@@ -77,3 +67,20 @@ only mem w n f l b c p r fits heads nexts e =
 pub found_some : (mem : List ℕ) (w n f l b c p : ℕ) → holds_key f l b c p ≡ true → (seek_in mem w n c p ≡ 0 → ⊥) → chained_find mem w n f l b c p ≡ None → ⊥
 found_some mem w n f l b c p t ne e =
     both_ways true (sym (ap not (ne_eqb (seek_in mem w n c p) 0 ne)) ∙ sym (isSome_chained_find mem w n f l b c p (key_out f l b c p t)) ∙ ap is_some e) refl
+
+-- what a chained store means is sound
+pub chained_sounds : (mem : List ℕ) (w n f l b room size : ℕ) → (1 ≤ w) × (w ≤ 128) → (1 ≤ f) × (f ≤ l + 1) × (l ≤ 9999) → (2 ≤ b) × (b ≤ 2097152) → (l < f → room ≡ 0)
+    → (1 ≤ n → chained_bytes w n ≤ size) → size ≡ length mem → (1 ≤ n → (j : ℕ) → j < 17 → head_at mem j ≤ n) → ((y : ℕ) → 1 ≤ y → y ≤ n → next_at mem w y ≤ n) → Sound (chained_of mem w n f l b room)
+chained_sounds mem w n f l b room size widths closings places shut fits len heads nexts =
+    let in_it : 1 ≤ n → 68 + n * (12 + w) ≤ length mem = λ h. omega (arith, fits h) in
+    record {
+      wide = widths.0;
+      narrow = widths.1;
+      starts = closings.0;
+      ends = closings.2;
+      two = places.0;
+      most = places.1;
+      shut = shut;
+      keys = λ c p r e. (only mem w n f l b c p r in_it heads nexts e).0;
+      records = λ c p r e. (only mem w n f l b c p r in_it heads nexts e).1;
+    }

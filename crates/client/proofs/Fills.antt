@@ -21,15 +21,16 @@ filled_none m c r absent = record {
   room = omega (arith, tally_none (λ k. is_some (m.find c (k + 1))) (m.bound - 1) (λ k _. ap is_some (absent (k + 1))));
 }
 
-pub filled_more : (m k n : Meaning) (c i : ℕ) (r : List ℕ) → Filled m k c i r → Put k n c (i + 1) r → Filled m n c (i + 1) r
-filled_more m k n c i r f w =
-    let was : k.find c (i + 1) ≡ None = f.beyond (i + 1) (λ _ b. omega arith) in
-    let one : cond {A = ℕ} (is_some (k.find c (i + 1))) 0 1 ≡ 1 = cond-false {A = ℕ} (is_some (k.find c (i + 1))) 0 1 (ap is_some was) in
+-- place p after those before it
+pub filled_more : (m k n : Meaning) (c p : ℕ) (r : List ℕ) → 1 ≤ p → Filled m k c (p - 1) r → Put k n c p r → Filled m n c p r
+filled_more m k n c p r low f w =
+    let was : k.find c p ≡ None = f.beyond p (λ _ b. omega arith) in
+    let one : cond {A = ℕ} (is_some (k.find c p)) 0 1 ≡ 1 = cond-false {A = ℕ} (is_some (k.find c p)) 0 1 (ap is_some was) in
     record {
       limits = limits_join m k n f.limits w.limits;
-      here = λ p a b. elim (cases_eq p (i + 1)) [ inl e ↦ ap (n.find c) e ∙ w.here | inr d ↦ w.others c p (λ _ e. d e) ∙ f.here p a (omega arith) ];
-      beyond = λ p o. w.others c p (λ _ e. o (omega arith) (omega arith)) ∙ f.beyond p (λ a b. o a (omega arith));
-      others = λ d p ne. w.others d p (λ e _. ne e) ∙ f.others d p ne;
+      here = λ q a b. elim (cases_eq q p) [ inl e ↦ ap (n.find c) e ∙ w.here | inr d ↦ w.others c q (λ _ e. d e) ∙ f.here q a (omega arith) ];
+      beyond = λ q o. w.others c q (λ _ e. o (omega arith) (omega arith)) ∙ f.beyond q (λ a b. o a (omega arith));
+      others = λ d q ne. w.others d q (λ e _. ne e) ∙ f.others d q ne;
       room = omega (arith, w.room, one, f.room);
     }
 

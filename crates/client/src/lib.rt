@@ -20,6 +20,7 @@ use numbering::{Closing, Key, Place};
 use refusal::cases::Refusal;
 use store::NodeStore;
 
+<<<<<<< HEAD
 // Puts a record at one of the places 1 to n, where the room is enough for what is missing there: never refused.
 fn must_put<S: NodeStore>(store: &mut S, key: Key, n: u32, bytes: &[u8])
     requires within { inside (S.meaning store.old) key.closing.0 key.place.0 ≡ true }
@@ -46,6 +47,10 @@ fn must_clear<S: NodeStore>(store: &mut S, closing: Closing)
 }
 
 // Puts one record at each place from 1 to n of a closing in which nothing is written.
+=======
+// Puts one record at each place from 1 to n of a closing in which nothing is written. No put is refused, as the room is
+// enough for what is missing.
+>>>>>>> refs/remotes/h2
 fn put_each<S: NodeStore>(store: &mut S, closing: Closing, n: u32, bytes: &[u8])
     requires within { in_span (S.meaning store.old) closing.0 ≡ true }
     requires below { n < (S.meaning store.old).bound }
@@ -54,16 +59,12 @@ fn put_each<S: NodeStore>(store: &mut S, closing: Closing, n: u32, bytes: &[u8])
     requires room { n ≤ (S.meaning store.old).room }
     ensures { Filled (S.meaning store.old) (S.meaning store.new) closing.0 n bytes.now }
 {
-    for i in 0..n {
-        must_put(
-            store,
-            Key {
-                closing,
-                place: Place(i + 1),
-            },
-            n,
-            bytes,
-        );
+    for place in 1..=n {
+        let key = Key {
+            closing,
+            place: Place(place),
+        };
+        store.put(key, bytes).unwrap();
     }
 }
 
@@ -103,7 +104,7 @@ pub fn fill_closing<S: NodeStore>(
     ensures refused { Refused result (S.meaning store.new ≡ S.meaning store.old) }
 {
     admit_fill(store, closing, n, bytes.len())?;
-    must_clear(store, closing);
+    store.clear(closing).unwrap();
     put_each(store, closing, n, bytes);
     Ok(())
 }
@@ -121,10 +122,7 @@ pub fn suits<S: NodeStore>(store: &S, width: usize, closing: Closing, depth: u32
     ensures { result ≡ suits_tree (S.meaning store.now) width closing.0 depth }
 {
     let limits = store.limits();
-    limits.width == width
-        && limits.first <= closing.0
-        && closing.0 <= limits.last
-        && holds_places(limits.bound, depth)
+    limits.width == width && limits.spans(closing) && holds_places(limits.bound, depth)
 }
 
 // Fills the buffer with the record under a key; false, and the buffer stays, where there is none for it.
@@ -133,10 +131,7 @@ pub fn fetch<S: NodeStore>(store: &mut S, key: Key, into: &mut [u8]) -> bool
     ensures found { result ≡ is_some (fetched (S.meaning store.old) key.closing.0 key.place.0 (length into.old)) }
     ensures filled { into.new ≡ unwrap_or (fetched (S.meaning store.old) key.closing.0 key.place.0 (length into.old)) into.old }
 {
-    match store.get(key, into) {
-        Ok(found) => found,
-        Err(_) => false,
-    }
+    store.get(key, into).unwrap_or(false)
 }
 
 // Sets the record under a key where the store does not refuse it; otherwise nothing changes.

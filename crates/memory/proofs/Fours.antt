@@ -1,6 +1,7 @@
 -- What a number of four bytes reads as after a write.
-use Rattle.std.proofs.Common.{◌≡◌, ℕ, ◌+◌, ◌*◌, ◌/◌, ◌%◌, ◌<◌, ◌≤◌, ◌≢◌, ◌⊎◌, List, length, get_or, set, ◌∙◌, inl, inr, arith}
+use Rattle.std.proofs.Common.{[], ◌∷◌, suc, sym, ap, add-zero, ◌≡◌, ℕ, ◌+◌, ◌/◌, ◌%◌, ◌<◌, ◌≤◌, ◌≢◌, ◌⊎◌, List, length, get_or, set, ◌∙◌, inl, inr, arith}
 use Rattle.std.proofs.lemmas.List.{get_or-set_same, get_or-set_other, length-set}
+use Rattle.std.proofs.Math.Seq.{paste, paste-suc, paste-zero}
 use Rattle.memory.specs.Four.{be4, put4}
 
 pub length_put4 : (xs : List ℕ) (i n : ℕ) → length (put4 xs i n) ≡ length xs
@@ -27,9 +28,6 @@ be4_put4_other xs i n j (inl h) =
 be4_put4_other xs i n j (inr h) =
     simp (getD_put4 xs i n j (inr (omega arith)), getD_put4 xs i n (j + 1) (inr (omega arith)), getD_put4 xs i n (j + 2) (inr (omega arith)), getD_put4 xs i n (j + 3) (inr (omega arith)))
 
-digits4 : (n : ℕ) → n / 16777216 * 16777216 + n / 65536 % 256 * 65536 + n / 256 % 256 * 256 + n % 256 ≡ n
-digits4 n = omega arith
-
 -- the four bytes, from the last write back
 pub be4_put4_same : (xs : List ℕ) (i n : ℕ) → i + 4 ≤ length xs → be4 (put4 xs i n) i ≡ n
 be4_put4_same xs i n h =
@@ -49,3 +47,14 @@ be4_put4_same xs i n h =
     get_or-set_other c (i + 3) (i + 2) (n % 256) 0 (omega arith) ∙ get_or-set_same b (i + 2) (n / 256 % 256) 0 (omega arith) in
     let e3 : get_or (set c (i + 3) (n % 256)) (i + 3) 0 ≡ n % 256 = get_or-set_same c (i + 3) (n % 256) 0 (omega arith) in
     omega arith
+
+-- the four bytes, written at once
+pub paste_put4 : (xs : List ℕ) (i n : ℕ) (s : List ℕ) → n < 4294967296 → i + 4 ≤ length xs → s ≡ n / 16777216 % 256 ∷ n / 65536 % 256 ∷ n / 256 % 256 ∷ n % 256 ∷ [] → paste xs i s 4 ≡ put4 xs i n
+paste_put4 xs i n s small fits is =
+    let bs : List ℕ = n / 16777216 % 256 ∷ n / 65536 % 256 ∷ n / 256 % 256 ∷ n % 256 ∷ [] in
+    let step : (j : ℕ) → j < 4 → paste xs i bs (suc j) ≡ set (paste xs i bs j) (i + j) (get_or bs j 0) = λ j h. sym (paste-suc xs i bs j 0 (omega arith) h) in
+    let top : n / 16777216 % 256 ≡ n / 16777216 = omega arith in
+    ap (λ z. paste xs i z 4) is
+    ∙ step 3 (omega arith)
+    ∙ ap (λ ys. set ys (i + 3) (n % 256)) (step 2 (omega arith) ∙ ap (λ ys. set ys (i + 2) (n / 256 % 256)) (step 1 (omega arith) ∙ ap (λ ys. set ys (i + 1) (n / 65536 % 256))
+    (step 0 (omega arith) ∙ ap (λ ys. set ys (i + 0) (n / 16777216 % 256)) (sym (paste-zero xs i bs)) ∙ ap (λ k. set xs k (n / 16777216 % 256)) (add-zero i) ∙ ap (set xs i) top)))

@@ -1,11 +1,8 @@
 -- Counts of what passes below a number, and sums.
-use Rattle.std.proofs.Common.{List, ◌∷◌, length, zero-add, ◌≡◌, ℕ, zero, suc, ◌+◌, ◌*◌, ◌<◌, ◌≤◌, Bool, true, false, cond, not, ◌≢◌, sym, refl, ap, inl, inr, suc-mul, zero-mul, add-one, arith}
+use Rattle.std.proofs.Common.{List, ◌∷◌, length, zero-add, ◌≡◌, ℕ, zero, suc, ◌+◌, ◌*◌, ◌<◌, ◌≤◌, Bool, true, false, cond, not, ◌≢◌, sym, refl, ap, inl, inr, suc-mul, zero-mul, arith}
 use Rattle.std.proofs.lemmas.Bool.{cases_eq}
 use Rattle.std.specs.List.{filter, range_with_len}
 use Rattle.store.specs.Counts.{tally, sum_to}
-
-pub tally_more : (f : ℕ → Bool) (n : ℕ) → tally f (n + 1) ≡ tally f n + cond (f n) 1 0
-tally_more f n = rw add-one
 
 abbrev bit : Bool → ℕ
 bit b = cond b 1 0

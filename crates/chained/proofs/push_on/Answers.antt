@@ -1,16 +1,14 @@
-use Rattle.std.proofs.Common.{◌*◌, ap, ◌∙◌}
-use Rattle.memory.specs.Four.{be4, put4}
-use Rattle.chained_theory.specs.Layout.{push_on, filled, head_at, next_at}
+use Rattle.std.proofs.Common.{length, arith}
+use Rattle.chained_theory.specs.Layout.{push_on, head_at, next_at}
+use Rattle.chained_theory.proofs.Writes.{past_heads}
 use Rattle.chained.proofs.push_on.Goals as goal
+
+pub read4-follower-requires : goal.read4-follower-requires
+read4-follower-requires c = omega (arith, c.bucket-head.ensures, c.start-at.ensures, past_heads (length c.args.bytes.now) c.args.number)
+
+pub write4-requires-2 : goal.write4-requires-2
+write4-requires-2 c = omega (arith, c.bucket-head.ensures, c.start-at.ensures, past_heads (length c.args.bytes.now) c.args.number, c.write4.auto.memory, c.fill_record.auto.memory)
 
 pub returns : goal.returns
 unfolding push_on head_at next_at
-returns c = λ w e.
-    let m = c.args.memory.now in
-    let a = c.args in
-    c.write4-2.ensures
-    ∙ ap (λ xs. put4 xs (4 * a.b) a.x) c.write4.ensures
-    ∙ ap (λ xs. put4 (put4 xs 0 c.read4-next.result) (4 * a.b) a.x) c.fill_record.ensures
-    ∙ ap (λ n. put4 (put4 (filled m a.at c.read4-head.result a.c a.p a.bytes.now) 0 n) (4 * a.b) a.x) c.read4-next.ensures
-    ∙ ap (λ n. put4 (put4 (filled m a.at n a.c a.p a.bytes.now) 0 (be4 m a.at)) (4 * a.b) a.x) c.read4-head.ensures
-    ∙ ap (λ i. put4 (put4 (filled m i (be4 m (4 * a.b)) a.c a.p a.bytes.now) 0 (be4 m i)) (4 * a.b) a.x) e
+returns c = cc

@@ -1,12 +1,11 @@
-use Rattle.std.proofs.Common.{length, sym, ◌∙◌, arith}
 use Rattle.store.specs.Meaning.{Meaning}
-use Rattle.store.proofs.Inside.{span_out, span_in}
-use Rattle.client.proofs.Fills.{filled_cleared, fill_opened}
+use Rattle.client.proofs.Fills.{filled_cleared}
 use Rattle.client.proofs.fill_closing.Goals as goal
 
-pub must_clear-requires : goal.must_clear-requires
-must_clear-requires g c =
+pub returns-clause-answers : goal.returns-clause-answers
+returns-clause-answers g c =
     let m : Meaning = g.S.NodeStore.meaning c.args.store.now in
+<<<<<<< HEAD
     (fill_opened m c.args.closing.0 c.args.n (length c.args.bytes.now) c.in_ok-admit_fill.ensures.0).0
 
 pub put_each-requires : goal.put_each-requires
@@ -33,3 +32,9 @@ returns g c =
       answers = (c.in_ok-admit_fill.ensures.0, filled_cleared m k n c.args.closing.0 c.args.n c.args.bytes.now c.must_clear.ensures c.put_each.ensures);
       refused = tt;
     }
+=======
+    let k : Meaning = g.S.NodeStore.meaning c.clear.new.self in
+    let n : Meaning = g.S.NodeStore.meaning c.put_each.new.store in
+    let cleared = (rw c.unwrap.ensures at c.clear.ensures.answers).1 in
+    (c.in_ok-admit_fill.ensures.0, filled_cleared m k n c.args.closing.0 c.args.n c.args.bytes.now cleared c.put_each.ensures)
+>>>>>>> refs/remotes/h2

@@ -1,9 +1,12 @@
-use Rattle.std.proofs.Common.{◌≡◌, ◌≤◌, vec_items}
-use Rattle.chained_theory.specs.Layout.{seek_from, seek_in}
+use Rattle.std.proofs.Common.{◌≡◌, ◌-◌, vec_items}
+use Rattle.chained_theory.specs.Layout.{seek_from}
+use Rattle.chained.specs.Meaning.{sought}
+use Rattle.chained.specs.Records.{IsRecord, link}
 use Rattle.chained.proofs.types.Chained.seek.Given as goal
 
-abbrev pub invariant-loop-left : goal.invariant-loop-left
-invariant-loop-left l = (l.i ≤ l.self.count) × (seek_from (vec_items l.self.memory) l.self.limits.width l.left l.i l.c l.p ≡ seek_in (vec_items l.self.memory) l.self.limits.width l.self.count l.c l.p)
-
-abbrev pub decreases-loop-left : goal.decreases-loop-left
-decreases-loop-left l = l.left
+abbrev pub invariant-loop : goal.invariant-loop
+invariant-loop l =
+    record {
+      of : IsRecord l.next l.self (link l.next);
+      left : seek_from (vec_items l.self.memory) l.self.extent.limits.width (l.self.count - l.counter) (link l.next) l.key.closing.0 l.key.place.0 ≡ sought l.self l.key.closing.0 l.key.place.0;
+    }

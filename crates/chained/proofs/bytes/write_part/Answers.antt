@@ -2,7 +2,7 @@ use Rattle.std.proofs.Common.{length, refl, ◌∙◌, arith}
 use Rattle.std.proofs.lemmas.Slice.{put_mid-paste}
 use Rattle.std.proofs.lemmas.List.Edits.{paste_all}
 use Rattle.memory.specs.Part.{patch}
-use Rattle.chained.proofs.write_part.Goals as goal
+use Rattle.chained.proofs.bytes.write_part.Goals as goal
 
 pub returns : goal.returns
 unfolding patch
