@@ -20,37 +20,8 @@ use numbering::{Closing, Key, Place};
 use refusal::cases::Refusal;
 use store::NodeStore;
 
-<<<<<<< HEAD
-// Puts a record at one of the places 1 to n, where the room is enough for what is missing there: never refused.
-fn must_put<S: NodeStore>(store: &mut S, key: Key, n: u32, bytes: &[u8])
-    requires within { inside (S.meaning store.old) key.closing.0 key.place.0 ≡ true }
-    requires low { key.place.0 ≤ n }
-    requires wide { length bytes.now ≡ (S.meaning store.old).width }
-    requires room { missing (S.meaning store.old) key.closing.0 n ≤ (S.meaning store.old).room }
-    ensures { Put (S.meaning store.old) (S.meaning store.new) key.closing.0 key.place.0 bytes.now }
-{
-    match store.put(key, bytes) {
-        Ok(()) => {}
-        Err(_) => unreachable(),
-    }
-}
-
-// Forgets a closing of the span: never refused.
-fn must_clear<S: NodeStore>(store: &mut S, closing: Closing)
-    requires { in_span (S.meaning store.old) closing.0 ≡ true }
-    ensures { Cleared (S.meaning store.old) (S.meaning store.new) closing.0 }
-{
-    match store.clear(closing) {
-        Ok(()) => {}
-        Err(_) => unreachable(),
-    }
-}
-
-// Puts one record at each place from 1 to n of a closing in which nothing is written.
-=======
 // Puts one record at each place from 1 to n of a closing in which nothing is written. No put is refused, as the room is
 // enough for what is missing.
->>>>>>> refs/remotes/h2
 fn put_each<S: NodeStore>(store: &mut S, closing: Closing, n: u32, bytes: &[u8])
     requires within { in_span (S.meaning store.old) closing.0 ≡ true }
     requires below { n < (S.meaning store.old).bound }

@@ -11,25 +11,6 @@ turn : (m k : Meaning) (c n p i : ℕ) (r : List ℕ) → Filled m k c i r → (
 turn m k c n p i r f s b low high =
     key_in k.first k.last k.bound c p (omega (arith, s, f.limits.first)) (omega (arith, s, f.limits.last)) low (omega (arith, f.limits.bound))
 
-<<<<<<< HEAD
-pub loop-i-init : goal.loop-i-init
-loop-i-init g c =
-    let m : Meaning = g.S.NodeStore.meaning c.args.store.now in (
-      filled_none m c.args.closing.0 c.args.bytes.now c.requires.absent,
-      omega (arith, missing_le m c.args.closing.0 c.args.n, c.requires.room),
-    )
-
-pub must_put-requires : goal.must_put-requires
-must_put-requires g c =
-    let m : Meaning = g.S.NodeStore.meaning c.args.store.now in
-    let k : Meaning = g.S.NodeStore.meaning c.loop-i.store in
-    let f = c.loop-i.invariant.0 in
-    record {
-      within = turn m k c.args.closing.0 c.args.n c.loop-i.i c.args.bytes.now f (span_out m.first m.last c.args.closing.0 c.requires.within) c.requires.below c.loop-i-test.true;
-      low = omega arith;
-      wide = c.requires.wide ∙ sym f.limits.width;
-      room = c.loop-i.invariant.1;
-=======
 pub loop-place-init : goal.loop-place-init
 loop-place-init g c =
     let m : Meaning = g.S.NodeStore.meaning c.args.store.now in
@@ -37,21 +18,11 @@ loop-place-init g c =
       filled = filled_none m c.args.closing.0 c.args.bytes.now c.requires.absent;
       reached = omega arith;
       roomy = omega (arith, missing_le m c.args.closing.0 c.args.n, c.requires.room);
->>>>>>> refs/remotes/h2
     }
 
 pub loop-place-preserved : goal.loop-place-preserved
 loop-place-preserved g c =
     let m : Meaning = g.S.NodeStore.meaning c.args.store.now in
-<<<<<<< HEAD
-    let k : Meaning = g.S.NodeStore.meaning c.loop-i.store in
-    let n : Meaning = g.S.NodeStore.meaning c.must_put.new.store in
-    let f = c.loop-i.invariant.0 in
-    let t = turn m k c.args.closing.0 c.args.n c.loop-i.i c.args.bytes.now f (span_out m.first m.last c.args.closing.0 c.requires.within) c.requires.below c.loop-i-test.true in (
-      filled_more m k n c.args.closing.0 c.loop-i.i c.args.bytes.now f c.must_put.ensures,
-      omega (arith, put_missing k n c.args.closing.0 (c.loop-i.i + 1) c.args.bytes.now t c.must_put.ensures c.args.n (omega arith), c.loop-i.invariant.1),
-    )
-=======
     let k : Meaning = g.S.NodeStore.meaning c.loop-place.store in
     let n : Meaning = g.S.NodeStore.meaning c.put.new.self in
     let a = c.args.closing.0 in
@@ -67,16 +38,9 @@ loop-place-preserved g c =
       reached = omega arith;
       roomy = omega (arith, put_missing k n a p r t put c.args.n high, c.loop-place.invariant.roomy);
     }
->>>>>>> refs/remotes/h2
 
 pub returns : goal.returns
 returns g c =
     let m : Meaning = g.S.NodeStore.meaning c.args.store.now in
-<<<<<<< HEAD
-    let k : Meaning = g.S.NodeStore.meaning c.loop-i.store in
-    let e : c.loop-i.i ≡ c.args.n = omega arith in
-    subst (λ i. Filled m k c.args.closing.0 i c.args.bytes.now) e c.loop-i.invariant.0
-=======
     let k : Meaning = g.S.NodeStore.meaning c.loop-place.store in
     subst (λ i. Filled m k c.args.closing.0 i c.args.bytes.now) (omega arith) c.loop-place.invariant.filled
->>>>>>> refs/remotes/h2

@@ -3,12 +3,6 @@ use Rattle.store.specs.Counts.{missing}
 use Rattle.client.specs.Fill.{Filled}
 use Rattle.client.proofs.put_each.Given as goal
 
-<<<<<<< HEAD
-abbrev pub invariant-loop-i : goal.invariant-loop-i
-invariant-loop-i g l =
-    Filled (g.S.NodeStore.meaning l.initial.store) (g.S.NodeStore.meaning l.store) l.closing.0 l.i l.bytes
-    × (missing (g.S.NodeStore.meaning l.store) l.closing.0 l.n ≤ (g.S.NodeStore.meaning l.store).room)
-=======
 abbrev pub invariant-loop-place : goal.invariant-loop-place
 invariant-loop-place g l =
     record {
@@ -16,4 +10,3 @@ invariant-loop-place g l =
       reached : l.place ≤ l.n + 1;
       roomy : missing (g.S.NodeStore.meaning l.store) l.closing.0 l.n ≤ (g.S.NodeStore.meaning l.store).room;
     }
->>>>>>> refs/remotes/h2
