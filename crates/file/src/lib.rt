@@ -4,9 +4,10 @@
 //! itself and copies nothing; it judges no content.
 #![tactic(auto)]
 
-ghost use Rattle.std.specs.Prelude.{◌≡◌, ℕ, ◌+◌, ◌-◌, ◌*◌, ◌<◌, ◌≤◌, length, MatchOption};
+ghost use Rattle.std.specs.Prelude.{◌≡◌, ℕ, ◌+◌, ◌-◌, ◌*◌, ◌<◌, ◌≤◌, length};
+ghost use Rattle.std.specs.Iterator.{at_most};
 ghost use Rattle.file.specs.Layout.{file_length};
-ghost use Rattle.file.specs.Fields.{offset_at, length_at, HasIndex, bytes_of, field_count, IsField};
+ghost use Rattle.file.specs.Fields.{offset_at, length_at, HasIndex, bytes_of, field_count};
 
 pub mod types;
 
@@ -62,33 +63,28 @@ impl<'a> Fields<'a> {
         ensures index { result.index ≡ 0 }
     {
         let width = A::width();
-        if depth <= 20 && file.len() == 43 + width + depth as usize * (32 + width) {
-            Fields {
-                file,
-                width,
-                count: 4 + depth as usize,
-                index: 0,
-            }
-        } else {
-            Fields {
-                file,
-                width,
-                count: 0,
-                index: 0,
-            }
+        let steps = depth as usize;
+        let fits = depth <= 20 && file.len() == 43 + width + steps * (32 + width);
+        Fields {
+            file,
+            width,
+            count: if fits { 4 + steps } else { 0 },
+            index: 0,
         }
     }
+}
+
+impl<'a> Iterator for Fields<'a> {
+    ghost use Rattle.file.specs.Steps.{Steps, left};
+
+    type Item = Found<'a>;
+
+    ghost next_gives = { Steps };
+
+    ghost remaining = { λ s. at_most (left s) };
 
     // The next field, or nothing after the last.
-    pub fn next(&mut self) -> Option<Found<'a>>
-        ensures file { self.new.file.now ≡ self.old.file.now }
-        ensures width { self.new.width ≡ self.old.width }
-        ensures count { self.new.count ≡ self.old.count }
-        ensures found { MatchOption result
-            ((self.old.count ≤ self.old.index) × (self.new.index ≡ self.old.index))
-            (λ f. (self.old.index < self.old.count) × (self.new.index ≡ self.old.index + 1)
-            × IsField self.old.width self.old.file.now self.old.index f) }
-    {
+    fn next(&mut self) -> Option<Found<'a>> {
         let i = self.index;
         if i >= self.count {
             return None;

@@ -37,39 +37,17 @@ use sheet::types::Sheet;
 use tree::leaf_count;
 use types::Walker;
 
-// Whether the bytes behind a digest are an amount's.
-fn step_amount<A: Amount>(part: &[u8]) -> bool
-    ensures { result ≡ is_some (A.kind.read (drop 32 part.now)) }
-{
-    match read_node::<A>(part) {
-        Ok(_) => true,
-        Err(_) => false,
-    }
-}
-
 // Whether the amount of a field is one.
 fn judge<A: Amount>(found: Found) -> Result<(), Refusal>
     requires { found.offset + 32 < 2 ^ 64 }
     ensures { (s : List ℕ) (i : ℕ) → IsField A.kind.width s i found.entry → Answers result (field_refusal A.kind s i) (λ _. Unit {0}) }
 {
     match found.field {
-        Field::Head(_) => Ok(()),
-        Field::Customer(_) => Ok(()),
-        Field::Salt(_) => Ok(()),
-        Field::Balance(part) => {
-            if A::read(part).is_ok() {
-                Ok(())
-            } else {
-                Err(Refusal::BadAmount(found.offset))
-            }
+        Field::Balance(part) if A::read(part).is_err() => Err(Refusal::BadAmount(found.offset)),
+        Field::Step(part) if read_node::<A>(part).is_err() => {
+            Err(Refusal::BadAmount(found.offset + 32))
         }
-        Field::Step(part) => {
-            if step_amount::<A>(part) {
-                Ok(())
-            } else {
-                Err(Refusal::BadAmount(found.offset + 32))
-            }
-        }
+        _ => Ok(()),
     }
 }
 
@@ -78,8 +56,7 @@ fn check_amounts<A: Amount>(file: &[u8], depth: u32) -> Result<(), Refusal>
     requires { (depth ≤ 20) × (length file.now ≡ file_length A.kind.width depth) }
     ensures { Answers result (amounts_refusal A.kind depth file.now) (λ _. Unit {0}) }
 {
-    let mut fields = Fields::new::<A>(file, depth);
-    while let Some(found) = fields.next() {
+    for found in Fields::new::<A>(file, depth) {
         judge::<A>(found)?;
     }
     Ok(())
@@ -111,15 +88,11 @@ fn over<A: Amount, D: Digest>(
     }
 }
 
-// Sixteen bytes by value.
+// Sixteen bytes by value; sixteen zeros for any other part.
 fn sixteen(part: &[u8]) -> [u8; 16]
     ensures { length part.now ≡ 16 → result ≡ part.now }
 {
-    let mut out = [0u8; 16];
-    if part.len() == 16 {
-        out.copy_from_slice(part);
-    }
-    out
+    part.try_into().unwrap_or([0; 16])
 }
 
 // One field further up.
@@ -136,63 +109,44 @@ fn walk<A: Amount, D: Digest>(
         → Answers result (join_refusal_at A.kind (D.hash digest.now) closing.0 (file_of A.kind depth s) i)
         (λ w. Walks A.meaning A.kind (D.hash digest.now) closing.0 depth s (i + 1) w) }
 {
-    let Walker {
-        customer,
-        salt,
-        own,
-        height,
-    } = walker;
     match found.field {
-        Field::Head(_) => Ok(Walker {
-            customer,
-            salt,
-            own,
-            height,
-        }),
+        Field::Head(_) => Ok(walker),
         Field::Customer(part) => Ok(Walker {
             customer: sixteen(part),
-            salt,
-            own,
-            height,
+            ..walker
         }),
         Field::Salt(part) => Ok(Walker {
-            customer,
             salt: sixteen(part),
-            own,
-            height,
+            ..walker
         }),
-        Field::Balance(part) => match A::read(part) {
-            Ok(balance) => {
-                let own = leaf(
-                    digest,
-                    closing,
-                    &Line {
-                        customer,
-                        salt,
-                        balance,
-                    },
-                );
-                Ok(Walker {
-                    customer,
-                    salt,
-                    own,
-                    height,
-                })
-            }
-            Err(_) => Err(Refusal::BadAmount(found.offset)),
-        },
-        Field::Step(part) => match read_node(part) {
-            Ok(step) => match over(digest, on_left(leaf_number, height), &own, &step) {
-                Ok(own) => Ok(Walker {
-                    customer,
-                    salt,
-                    own,
-                    height: height + 1,
-                }),
-                Err(_) => Err(Refusal::JoinUnwritable(found.offset)),
-            },
-            Err(_) => Err(Refusal::BadAmount(found.offset)),
-        },
+        Field::Balance(part) => {
+            let Ok(balance) = A::read(part) else {
+                return Err(Refusal::BadAmount(found.offset));
+            };
+            let line = Line {
+                customer: walker.customer,
+                salt: walker.salt,
+                balance,
+            };
+            Ok(Walker {
+                own: leaf(digest, closing, &line),
+                ..walker
+            })
+        }
+        Field::Step(part) => {
+            let Ok(step) = read_node(part) else {
+                return Err(Refusal::BadAmount(found.offset));
+            };
+            let left = on_left(leaf_number, walker.height);
+            let Ok(own) = over(digest, left, &walker.own, &step) else {
+                return Err(Refusal::JoinUnwritable(found.offset));
+            };
+            Ok(Walker {
+                own,
+                height: walker.height + 1,
+                ..walker
+            })
+        }
     }
 }
 
@@ -211,7 +165,6 @@ fn climb<A: Amount, D: Digest>(
     ensures { Answers result (joins_refusal A.kind (D.hash digest.now) closing.0 depth (file_of A.kind depth file.now))
         (λ n. node_of A.meaning n ≡ path_node A.kind (D.hash digest.now) closing.0 (file_of A.kind depth file.now) depth) }
 {
-    let mut fields = Fields::new::<A>(file, depth);
     let mut walker = Walker {
         customer: [0; 16],
         salt: [0; 16],
@@ -221,9 +174,8 @@ fn climb<A: Amount, D: Digest>(
         },
         height: 0,
     };
-    while let Some(found) = fields.next() {
-        let next = walk(digest, closing, leaf_number, walker, found)?;
-        walker = next;
+    for found in Fields::new::<A>(file, depth) {
+        walker = walk(digest, closing, leaf_number, walker, found)?;
     }
     Ok(walker.own)
 }

@@ -7,19 +7,22 @@ use Rattle.verify.proofs.check_amounts.Goals as goal
 pub loop-found-init : goal.loop-found-init
 loop-found-init g c =
     let k = g.A.Amount.kind in
-    let e = c.new-fields.ensures in
-    let n : c.new-fields.result.count ≡ 4 + c.args.depth = e.count ∙ all_fields k.width c.args.depth _ c.requires.0 c.requires.1 in (
-      e.file,
-      e.width,
+    let e = c.new-found-items.ensures in
+    let same = c.into_iter-found-iterator.ensures.into_iter_gives in
+    let f = c.into_iter-found-iterator.result in
+    let n : f.count ≡ 4 + c.args.depth = ap (λ x. x.count) same ∙ e.count ∙ all_fields k.width c.args.depth _ c.requires.0 c.requires.1 in
+    let start : f.index ≡ 0 = ap (λ x. x.index) same ∙ e.index in (
+      ap (λ x. x.file.now) same ∙ e.file,
+      ap (λ x. x.width) same ∙ e.width,
       n,
-      ap (λ m. first_from (field_refusal k c.args.file.now) m 0) (let q : 4 + c.args.depth ≡ c.new-fields.result.count - c.new-fields.result.index = omega (arith, n, e.index) in q)
-          ∙ ap (first_from (field_refusal k c.args.file.now) (c.new-fields.result.count - c.new-fields.result.index)) (sym e.index),
+      ap (λ m. first_from (field_refusal k c.args.file.now) m 0) (let q : 4 + c.args.depth ≡ f.count - f.index = omega (arith, n, start) in q)
+          ∙ ap (first_from (field_refusal k c.args.file.now) (f.count - f.index)) (sym start),
     )
 
 pub judge-requires : goal.judge-requires
 judge-requires g c =
-    let f = c.loop-found.fields in
-    let o = c.in-Some.ensures.found in
+    let f = c.loop-found.found-iterator in
+    let o = c.in-Some.ensures.steps.found in
     let b = offset_small f.width f.index f.narrow.0 (omega (arith, f.narrow, o.0)) in
     omega (arith, b, o.2.offset_is)
 
@@ -27,8 +30,8 @@ pub returns-in_err-judge : goal.returns-in_err-judge
 returns-in_err-judge g c =
     let k = g.A.Amount.kind in
     let s = c.args.file.now in
-    let f = c.loop-found.fields in
-    let o = c.in-Some.ensures.found in
+    let f = c.loop-found.found-iterator in
+    let o = c.in-Some.ensures.steps.found in
     let v = c.loop-found.invariant in
     let e = c.in_err-judge.field-0.0 in
     let is = same_field f.width k.width f.file.now s f.index c.in-Some.found v.1 v.0 o.2 in
@@ -39,9 +42,9 @@ pub loop-found-preserved : goal.loop-found-preserved
 loop-found-preserved g c =
     let k = g.A.Amount.kind in
     let s = c.args.file.now in
-    let f = c.loop-found.fields in
+    let f = c.loop-found.found-iterator in
     let n = c.next.new.self in
-    let a = c.in-Some.ensures in
+    let a = c.in-Some.ensures.steps in
     let o = a.found in
     let v = c.loop-found.invariant in
     let is = same_field f.width k.width f.file.now s f.index c.in-Some.found v.1 v.0 o.2 in
@@ -56,5 +59,5 @@ loop-found-preserved g c =
 pub returns : goal.returns
 returns g c =
     let k = g.A.Amount.kind in
-    let f = c.loop-found.fields in
-    (c.loop-found.invariant.3 ∙ fields_done (field_refusal k c.args.file.now) f.count f.index c.in_default.ensures.found.0, tt)
+    let f = c.loop-found.found-iterator in
+    (c.loop-found.invariant.3 ∙ fields_done (field_refusal k c.args.file.now) f.count f.index c.in-None.ensures.steps.found.0, tt)

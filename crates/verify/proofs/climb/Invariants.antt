@@ -8,9 +8,6 @@ abbrev pub invariant-loop-found : goal.invariant-loop-found
 invariant-loop-found g l =
     let k = g.A.Amount.kind in
     let h = g.D.Digest.hash l.digest in
-    (l.fields.file.now ≡ l.file) × (l.fields.width ≡ k.width) × (l.fields.count ≡ 4 + l.depth)
-    × Walks g.A.Amount.meaning k h l.closing.0 l.depth l.file l.fields.index l.walker
-    × (joins_refusal k h l.closing.0 l.depth (file_of k l.depth l.file) ≡ first_from (join_refusal_at k h l.closing.0 (file_of k l.depth l.file)) (l.fields.count - l.fields.index) l.fields.index)
-
-abbrev pub decreases-loop-found : goal.decreases-loop-found
-decreases-loop-found g l = l.fields.count - l.fields.index
+    (l.found-iterator.file.now ≡ l.file) × (l.found-iterator.width ≡ k.width) × (l.found-iterator.count ≡ 4 + l.depth)
+    × Walks g.A.Amount.meaning k h l.closing.0 l.depth l.file l.found-iterator.index l.walker
+    × (joins_refusal k h l.closing.0 l.depth (file_of k l.depth l.file) ≡ first_from (join_refusal_at k h l.closing.0 (file_of k l.depth l.file)) (l.found-iterator.count - l.found-iterator.index) l.found-iterator.index)

@@ -14,10 +14,10 @@ returns-in-Ok-over g c s depth i f long below amount number walks =
     let w = c.args.walker in
     let ff = file_of k depth s in
     let st = c.in-Ok-read_node.step in
-    let b = c.on_left.result in
+    let b = c.on_left-left.result in
     let low = subst (HasIndex i) c.in-Step.is f.named in
     let part = subst (λ x. bytes_of x ≡ field_bytes k.width s i) c.in-Step.is f.bytes_are in
-    let bit : b ≡ is_left ff (i - 4) = c.on_left.ensures ∙ ap (λ x. eqb (x / 2 ^ w.height % 2) 0) number ∙ ap (λ x. eqb (ff.leaf / 2 ^ x % 2) 0) walks.height_is in
+    let bit : b ≡ is_left ff (i - 4) = c.on_left-left.ensures ∙ ap (λ x. eqb (x / 2 ^ w.height % 2) 0) number ∙ ap (λ x. eqb (ff.leaf / 2 ^ x % 2) 0) walks.height_is in
     let x = node_of m w.own in
     let y = node_of m st in
     let l = node_of m (cond b w.own st) in
@@ -35,8 +35,8 @@ returns-in-Ok-over g c s depth i f long below amount number walks =
       },
     )
 
-pub returns-in-Err-over : goal.returns-in-Err-over
-returns-in-Err-over g c s depth i f long below amount number walks =
+pub returns-in_default-over : goal.returns-in_default-over
+returns-in_default-over g c s depth i f long below amount number walks =
     let k = g.A.Amount.kind in
     let m = g.A.Amount.meaning in
     let h = g.D.Digest.hash c.args.digest.now in
@@ -44,11 +44,11 @@ returns-in-Err-over g c s depth i f long below amount number walks =
     let w = c.args.walker in
     let ff = file_of k depth s in
     let st = c.in-Ok-read_node.step in
-    let b = c.on_left.result in
+    let b = c.on_left-left.result in
     let low = subst (HasIndex i) c.in-Step.is f.named in
     let part = subst (λ x. bytes_of x ≡ field_bytes k.width s i) c.in-Step.is f.bytes_are in
-    let bit : b ≡ is_left ff (i - 4) = c.on_left.ensures ∙ ap (λ x. eqb (x / 2 ^ w.height % 2) 0) number ∙ ap (λ x. eqb (ff.leaf / 2 ^ x % 2) 0) walks.height_is in
+    let bit : b ≡ is_left ff (i - 4) = c.on_left-left.ensures ∙ ap (λ x. eqb (x / 2 ^ w.height % 2) 0) number ∙ ap (λ x. eqb (ff.leaf / 2 ^ x % 2) 0) walks.height_is in
     let y = node_of m st in
     let py = step_is k s c.in-Step.part.now depth i y low below part c.in-Ok-read_node.ensures.1 in
     stops k h n ff i low b bit (node_of m w.own) y (node_of m (cond b w.own st)) (node_of m (cond b st w.own)) (walks.own_is low) py
-    (chosen (node_of m) b w.own st) (chosen (node_of m) b st w.own) c.in-Err-over.field-0 c.args.found.offset f.offset_is c.in-Err-over.ensures
+    (chosen (node_of m) b w.own st) (chosen (node_of m) b st w.own) c.in_default-over.field-0 c.args.found.offset f.offset_is c.in_default-over.ensures

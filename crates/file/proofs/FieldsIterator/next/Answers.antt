@@ -1,6 +1,6 @@
 use Rattle.std.proofs.Common.{◌+◌, ◌≤◌, length, arith}
 use Rattle.file.proofs.Ends.{within}
-use Rattle.file.proofs.Fields.next.Goals as goal
+use Rattle.file.proofs.FieldsIterator.next.Goals as goal
 
 pub slice_bounds-part-end : goal.slice_bounds-part-end
 slice_bounds-part-end c =
