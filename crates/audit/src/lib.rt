@@ -7,15 +7,11 @@
 ghost use Rattle.audit.specs.Promise.{AuditPromise, HonestAudit};
 
 // The tally stays under the total, nobody who passes is left out, and shown texts are a collision.
-pub fn audit_holds() -> u8
+pub fn audit_holds()
     ensures { AuditPromise }
-{
-    0
-}
+{}
 
 // Files of one ledger never show two texts, and all of them together reach its total.
-pub fn honest_audits_hold() -> u8
+pub fn honest_audits_hold()
     ensures { HonestAudit }
-{
-    0
-}
+{}

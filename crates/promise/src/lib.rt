@@ -7,8 +7,6 @@
 ghost use Rattle.promise.specs.Promise.{Promise};
 
 // A call that does nothing, so that the promise stands on a contract.
-pub fn stands() -> u8
+pub fn stands()
     ensures { Promise }
-{
-    0
-}
+{}
