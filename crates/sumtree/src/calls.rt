@@ -1,7 +1,9 @@
 //! The calls of a script, read from the words of a line.
+use crate::Stop;
 use crate::words::{bytes, number, number32, numbers};
 use digest::kinds::AnyDigest;
-use std::alloc::{AllocError, Global};
+use std::alloc::Global;
+use store::limits::Limits;
 
 #[derive(Clone, Copy)]
 pub(crate) enum AmountKind {
@@ -9,15 +11,39 @@ pub(crate) enum AmountKind {
     Purse,
 }
 
+impl TryFrom<&str> for AmountKind {
+    type Error = Stop;
+
+    fn try_from(word: &str) -> Result<AmountKind, Stop> {
+        match word {
+            "single" => Ok(AmountKind::Single),
+            "purse" => Ok(AmountKind::Purse),
+            _ => Err(Stop::Unreadable),
+        }
+    }
+}
+
+// No TryFrom: the type and the trait are both of other crates.
+fn digest_kind(word: &str) -> Result<AnyDigest, Stop> {
+    match word {
+        "rehearsal" => Ok(AnyDigest::Rehearsal),
+        "sha256" => Ok(AnyDigest::Sha256),
+        _ => Err(Stop::Unreadable),
+    }
+}
+
+#[derive(Clone, Copy)]
+pub(crate) enum StoreKind {
+    Flat,
+    // with so many records
+    Chained(u32),
+}
+
 // A store as a script describes it, with the length of its memory.
 #[derive(Clone, Copy)]
 pub(crate) struct Shape {
-    pub width: u64,
-    pub first: u32,
-    pub last: u32,
-    pub bound: u32,
-    // how many records a chained one has; a flat one says nothing here
-    pub count: Option<u32>,
+    pub kind: StoreKind,
+    pub limits: Limits,
     pub memory: u64,
 }
 
@@ -51,267 +77,100 @@ pub(crate) enum Call {
     Texts(u32),
 }
 
-fn amount_kind(word: &str) -> Option<AmountKind> {
-    match word {
-        "single" => Some(AmountKind::Single),
-        "purse" => Some(AmountKind::Purse),
-        _ => None,
-    }
-}
-
-fn digest_kind(word: &str) -> Option<AnyDigest> {
-    match word {
-        "rehearsal" => Some(AnyDigest::Rehearsal),
-        "sha256" => Some(AnyDigest::Sha256),
-        _ => None,
-    }
-}
-
-fn flat_shape(parts: &[&str]) -> Option<Shape> {
-    let [_, width, first, last, bound, memory] = parts else {
-        return None;
-    };
-    Some(Shape {
-        width: number(width)?,
+fn limits(width: &str, first: &str, last: &str, bound: &str) -> Result<Limits, Stop> {
+    Ok(Limits {
+        width: number(width)? as usize,
         first: number32(first)?,
         last: number32(last)?,
         bound: number32(bound)?,
-        count: None,
-        memory: number(memory)?,
     })
 }
 
-fn chained_shape(parts: &[&str]) -> Option<Shape> {
-    let [_, width, first, last, bound, count, memory] = parts else {
-        return None;
-    };
-    Some(Shape {
-        width: number(width)?,
-        first: number32(first)?,
-        last: number32(last)?,
-        bound: number32(bound)?,
-        count: Some(number32(count)?),
-        memory: number(memory)?,
-    })
-}
-
-fn read_shape(heap: Global, word: &str) -> Result<Option<Shape>, AllocError> {
+fn read_shape(heap: Global, word: &str) -> Result<Shape, Stop> {
     let parts: Vec<&str> = word.split(':').collect(heap)?;
-    let Some(name) = parts.first().copied() else {
-        return Ok(None);
-    };
-    if name == "flat" {
-        return Ok(flat_shape(&parts));
+    match parts.as_slice() {
+        ["flat", width, first, last, bound, memory] => Ok(Shape {
+            kind: StoreKind::Flat,
+            limits: limits(width, first, last, bound)?,
+            memory: number(memory)?,
+        }),
+        ["chained", width, first, last, bound, count, memory] => Ok(Shape {
+            kind: StoreKind::Chained(number32(count)?),
+            limits: limits(width, first, last, bound)?,
+            memory: number(memory)?,
+        }),
+        _ => Err(Stop::Unreadable),
     }
-    if name == "chained" {
-        return Ok(chained_shape(&parts));
-    }
-    Ok(None)
 }
 
 // A store that is made: its memory has to fit 32 bits.
-fn made_shape(heap: Global, word: &str) -> Result<Option<Shape>, AllocError> {
-    match read_shape(heap, word)? {
-        Some(s) if u32::try_from(s.memory).is_ok() => Ok(Some(s)),
-        _ => Ok(None),
+fn made_shape(heap: Global, word: &str) -> Result<Shape, Stop> {
+    let shape = read_shape(heap, word)?;
+    match u32::try_from(shape.memory) {
+        Ok(_) => Ok(shape),
+        Err(_) => Err(Stop::Unreadable),
     }
 }
 
-fn two_shapes(
-    heap: Global,
-    nodes: &str,
-    leaves: &str,
-) -> Result<Option<(Shape, Shape)>, AllocError> {
-    let (Some(n), Some(l)) = (made_shape(heap, nodes)?, made_shape(heap, leaves)?) else {
-        return Ok(None);
-    };
-    Ok(Some((n, l)))
-}
-
-fn join(heap: Global, left: &str, right: &str) -> Result<Option<Call>, AllocError> {
-    let Some(a) = numbers(heap, left)? else {
-        return Ok(None);
-    };
-    let Some(b) = numbers(heap, right)? else {
-        return Ok(None);
-    };
-    Ok(Some(Call::Join(a, b)))
-}
-
-fn put(heap: Global, closing: &str, place: &str, record: &str) -> Result<Option<Call>, AllocError> {
-    let (Some(c), Some(p)) = (number32(closing), number32(place)) else {
-        return Ok(None);
-    };
-    match bytes(heap, record)? {
-        Some(r) => Ok(Some(Call::Put(c, p, r))),
-        None => Ok(None),
-    }
-}
-
-fn enter(
-    heap: Global,
-    customer: &str,
-    salt: &str,
-    balance: &str,
-) -> Result<Option<Call>, AllocError> {
-    let Some(c) = bytes(heap, customer)? else {
-        return Ok(None);
-    };
-    let Some(s) = bytes(heap, salt)? else {
-        return Ok(None);
-    };
-    match numbers(heap, balance)? {
-        Some(b) => Ok(Some(Call::Enter(c, s, b))),
-        None => Ok(None),
-    }
-}
-
-fn check(heap: Global, sheet: &str, file: &str) -> Result<Option<Call>, AllocError> {
-    let Some(s) = bytes(heap, sheet)? else {
-        return Ok(None);
-    };
-    match bytes(heap, file)? {
-        Some(f) => Ok(Some(Call::Check(s, f))),
-        None => Ok(None),
-    }
-}
-
-fn fields(heap: Global, depth: &str, file: &str) -> Result<Option<Call>, AllocError> {
-    let Some(d) = number32(depth) else {
-        return Ok(None);
-    };
-    match bytes(heap, file)? {
-        Some(f) => Ok(Some(Call::Fields(d, f))),
-        None => Ok(None),
-    }
-}
-
-fn one_word(word: &str) -> Option<Call> {
-    match word {
-        "room" => Some(Call::Room),
-        "close" => Some(Call::Close),
-        "abandon" => Some(Call::Abandon),
-        "tally" => Some(Call::Tally),
-        _ => None,
-    }
-}
-
-// A call with one word behind its name that is bytes.
-fn with_bytes(heap: Global, name: &str, word: &str) -> Result<Option<Call>, AllocError> {
-    let Some(b) = bytes(heap, word)? else {
-        return Ok(None);
-    };
+fn one_word(name: &str) -> Result<Call, Stop> {
     match name {
-        "digest" => Ok(Some(Call::Digest(b))),
-        "amount" => Ok(Some(Call::Amount(b))),
-        "lay" => Ok(Some(Call::Lay(b))),
-        "present" => Ok(Some(Call::Present(b))),
-        _ => Ok(None),
+        "room" => Ok(Call::Room),
+        "close" => Ok(Call::Close),
+        "abandon" => Ok(Call::Abandon),
+        "tally" => Ok(Call::Tally),
+        _ => Err(Stop::Unreadable),
     }
 }
 
-// A call with one number behind its name.
-fn with_number(name: &str, word: &str) -> Option<Call> {
-    let n = number32(word)?;
+fn two_words(heap: Global, name: &str, word: &str) -> Result<Call, Stop> {
     match name {
-        "held" => Some(Call::Held(n)),
-        "clear" => Some(Call::Clear(n)),
-        "withdraw" => Some(Call::Withdraw(n)),
-        "texts" => Some(Call::Texts(n)),
-        _ => None,
+        "digest" => bytes(heap, word).map(Call::Digest),
+        "amount" => bytes(heap, word).map(Call::Amount),
+        "lay" => bytes(heap, word).map(Call::Lay),
+        "present" => bytes(heap, word).map(Call::Present),
+        "measure" => read_shape(heap, word).map(Call::Measure),
+        "store" => made_shape(heap, word).map(Call::Store),
+        "held" => number32(word).map(Call::Held),
+        "clear" => number32(word).map(Call::Clear),
+        "withdraw" => number32(word).map(Call::Withdraw),
+        "texts" => number32(word).map(Call::Texts),
+        _ => Err(Stop::Unreadable),
     }
 }
 
-fn two_words(heap: Global, name: &str, word: &str) -> Result<Option<Call>, AllocError> {
-    match name {
-        "digest" | "amount" | "lay" | "present" => with_bytes(heap, name, word),
-        "measure" => match read_shape(heap, word)? {
-            Some(s) => Ok(Some(Call::Measure(s))),
-            None => Ok(None),
-        },
-        "store" => match made_shape(heap, word)? {
-            Some(s) => Ok(Some(Call::Store(s))),
-            None => Ok(None),
-        },
-        _ => Ok(with_number(name, word)),
-    }
+fn three_words(heap: Global, name: &str, one: &str, two: &str) -> Result<Call, Stop> {
+    Ok(match name {
+        "use" => Call::Use(AmountKind::try_from(one)?, digest_kind(two)?),
+        "join" => Call::Join(numbers(heap, one)?, numbers(heap, two)?),
+        "check" => Call::Check(bytes(heap, one)?, bytes(heap, two)?),
+        "fields" => Call::Fields(number32(one)?, bytes(heap, two)?),
+        "open" => Call::Open(number32(one)?, number32(two)?),
+        "sheet" => Call::Sheet(number32(one)?, number32(two)?),
+        "custodian" => Call::Custodian(made_shape(heap, one)?, made_shape(heap, two)?),
+        "auditor" => Call::Auditor(made_shape(heap, one)?, made_shape(heap, two)?),
+        _ => return Err(Stop::Unreadable),
+    })
 }
 
-// A call with two numbers behind its name.
-fn with_two_numbers(name: &str, one: &str, two: &str) -> Option<Call> {
-    let (Some(m), Some(n)) = (number32(one), number32(two)) else {
-        return None;
-    };
-    match name {
-        "open" => Some(Call::Open(m, n)),
-        "sheet" => Some(Call::Sheet(m, n)),
-        _ => None,
-    }
+fn four_words(heap: Global, name: &str, one: &str, two: &str, three: &str) -> Result<Call, Stop> {
+    Ok(match name {
+        "put" => Call::Put(number32(one)?, number32(two)?, bytes(heap, three)?),
+        "get" => Call::Get(number32(one)?, number32(two)?, number32(three)?),
+        "issue" => Call::Issue(number32(one)?, number32(two)?, number32(three)?),
+        "enter" => Call::Enter(bytes(heap, one)?, bytes(heap, two)?, numbers(heap, three)?),
+        _ => return Err(Stop::Unreadable),
+    })
 }
 
-fn parties(
-    heap: Global,
-    name: &str,
-    nodes: &str,
-    leaves: &str,
-) -> Result<Option<Call>, AllocError> {
-    let Some((n, l)) = two_shapes(heap, nodes, leaves)? else {
-        return Ok(None);
-    };
-    if name == "custodian" {
-        return Ok(Some(Call::Custodian(n, l)));
-    }
-    Ok(Some(Call::Auditor(n, l)))
-}
-
-fn three_words(heap: Global, name: &str, one: &str, two: &str) -> Result<Option<Call>, AllocError> {
-    match name {
-        "use" => match (amount_kind(one), digest_kind(two)) {
-            (Some(a), Some(d)) => Ok(Some(Call::Use(a, d))),
-            _ => Ok(None),
-        },
-        "join" => join(heap, one, two),
-        "custodian" | "auditor" => parties(heap, name, one, two),
-        "check" => check(heap, one, two),
-        "fields" => fields(heap, one, two),
-        _ => Ok(with_two_numbers(name, one, two)),
-    }
-}
-
-// A call with three numbers behind its name.
-fn with_three_numbers(name: &str, one: &str, two: &str, three: &str) -> Option<Call> {
-    let (Some(l), Some(m), Some(n)) = (number32(one), number32(two), number32(three)) else {
-        return None;
-    };
-    match name {
-        "get" => Some(Call::Get(l, m, n)),
-        "issue" => Some(Call::Issue(l, m, n)),
-        _ => None,
-    }
-}
-
-fn four_words(
-    heap: Global,
-    name: &str,
-    one: &str,
-    two: &str,
-    three: &str,
-) -> Result<Option<Call>, AllocError> {
-    match name {
-        "put" => put(heap, one, two, three),
-        "enter" => enter(heap, one, two, three),
-        _ => Ok(with_three_numbers(name, one, two, three)),
-    }
-}
-
-// The call of a line, where it is one.
-pub(crate) fn read_call(heap: Global, line: &str) -> Result<Option<Call>, AllocError> {
+// The call of a line, where it is one. The words are told by how many there are first: one match over all would take the
+// proof minutes.
+pub(crate) fn read_call(heap: Global, line: &str) -> Result<Call, Stop> {
     let words: Vec<&str> = line.split(' ').collect(heap)?;
     match words.as_slice() {
-        [name] => Ok(one_word(name)),
+        [name] => one_word(name),
         [name, one] => two_words(heap, name, one),
         [name, one, two] => three_words(heap, name, one, two),
         [name, one, two, three] => four_words(heap, name, one, two, three),
-        _ => Ok(None),
+        _ => Err(Stop::Unreadable),
     }
 }

@@ -4,8 +4,6 @@
 //! itself. A new call is a case of `Call` and an arm of `Session::answer`.
 #![tactic(auto)]
 
-ghost use Rattle.std.specs.Prelude.{◌≡◌, ◌<◌, false, length};
-
 mod calls;
 mod papers;
 mod stores;
@@ -16,12 +14,12 @@ use anystore::types::AnyStore;
 use calls::{AmountKind, Call, Shape, read_call};
 use digest::Digest;
 use digest::kinds::AnyDigest;
-use row::{Purse, Single};
 use refusal::cases::Refusal;
+use row::{Purse, Single};
 use std::alloc::{AllocError, Global};
-use std::env;
 use std::io::{BufRead, BufReader, BufWriter, Write};
-use words::{show_amount, show_bytes};
+use std::{env, fmt};
+use words::{Shown, ShownAmount};
 
 // What `use` chose.
 #[derive(Clone, Copy)]
@@ -38,41 +36,59 @@ struct Session {
     store: Option<AnyStore>,
 }
 
+// Why a line has no other answer.
 #[derive(Drop)]
-enum Answer {
-    Said(String),
+pub(crate) enum Stop {
+    Refused(Refusal),
     // the types stop the call, or what it needs is not made yet
     NotNow,
     // no line of the language
     Unreadable,
+    NoMemory(AllocError),
 }
 
-fn said(heap: Global, text: &str) -> Result<Answer, AllocError> {
-    Ok(Answer::Said(String::from_str(heap, text)?))
+impl From<Refusal> for Stop {
+    fn from(refusal: Refusal) -> Stop {
+        Stop::Refused(refusal)
+    }
 }
 
-fn refused(heap: Global, r: Refusal) -> Result<Answer, AllocError> {
-    let number = r.number();
-    let offset = r.offset();
-    Ok(Answer::Said(format!(in heap; "refused {number} at {offset}")?))
+impl From<AllocError> for Stop {
+    fn from(error: AllocError) -> Stop {
+        Stop::NoMemory(error)
+    }
 }
 
-fn say_amount<A: Amount>(heap: Global, amount: Result<A, Refusal>) -> Result<Answer, AllocError> {
-    match amount {
-        Ok(a) => {
-            let mut text = String::from_str(heap, "amount ")?;
-            show_amount(heap, &mut text, a)?;
-            Ok(Answer::Said(text))
+impl fmt::Display for Stop {
+    fn fmt<W: fmt::Write>(&self, f: &mut fmt::Formatter<W>) -> fmt::Result {
+        match self {
+            Stop::Refused(refusal) => {
+                let number = refusal.number();
+                let offset = refusal.offset();
+                write!(f, "refused {number} at {offset}")
+            }
+            Stop::NotNow => write!(f, "not now"),
+            Stop::Unreadable => write!(f, "unreadable"),
+            Stop::NoMemory(_) => write!(f, "no memory"),
         }
-        Err(r) => refused(heap, r),
     }
 }
 
-fn join<A: Amount>(heap: Global, left: &[u64], right: &[u64]) -> Result<Answer, AllocError> {
-    match (A::of_numbers(left), A::of_numbers(right)) {
-        (Some(a), Some(b)) => say_amount(heap, a.join(b)),
-        _ => Ok(Answer::Unreadable),
-    }
+pub(crate) fn said(heap: Global, text: &str) -> Result<String, Stop> {
+    Ok(String::from_str(heap, text)?)
+}
+
+fn read<A: Amount>(heap: Global, text: &[u8]) -> Result<String, Stop> {
+    let amount = ShownAmount(A::read(text)?);
+    Ok(format!(in heap; "amount {amount}")?)
+}
+
+fn join<A: Amount>(heap: Global, left: &[u64], right: &[u64]) -> Result<String, Stop> {
+    let (Some(a), Some(b)) = (A::of_numbers(left), A::of_numbers(right)) else {
+        return Err(Stop::Unreadable);
+    };
+    let joint = ShownAmount(a.join(b)?);
+    Ok(format!(in heap; "amount {joint}")?)
 }
 
 // Whether some kind has an amount of these numbers.
@@ -81,50 +97,36 @@ fn some_amount(numbers: &[u64]) -> bool {
         || <Purse as Amount>::of_numbers(numbers).is_some()
 }
 
-// Whether a line has nothing but spaces.
-fn blank(line: &[u8]) -> bool
-    ensures { result ≡ false → 0 < length line.now }
-{
-    for b in line {
-        if *b != b' ' {
-            return false;
-        }
-    }
-    true
+// Whether a line says nothing: it has nothing but spaces, or is a remark.
+fn is_silent(line: &[u8]) -> bool {
+    line.first() == Some(&b'#') || line.iter().all(|b| *b == b' ')
 }
 
 impl Session {
-    fn digest(&self, text: &[u8]) -> Result<Answer, AllocError> {
-        let Some(chosen) = self.chosen else {
-            return Ok(Answer::NotNow);
-        };
-        match chosen.digest.digest(text) {
-            Ok(d) => {
-                let mut line = String::from_str(self.heap, "digest ")?;
-                show_bytes(&mut line, &d)?;
-                Ok(Answer::Said(line))
-            }
-            Err(r) => refused(self.heap, r),
+    fn chosen(&self) -> Result<Chosen, Stop> {
+        self.chosen.ok_or(Stop::NotNow)
+    }
+
+    fn digest(&self, text: &[u8]) -> Result<String, Stop> {
+        let digest = self.chosen()?.digest.digest(text)?;
+        let shown = Shown(&digest);
+        Ok(format!(in self.heap; "digest {shown}")?)
+    }
+
+    fn amount(&self, text: &[u8]) -> Result<String, Stop> {
+        match self.chosen()?.amount {
+            AmountKind::Single => read::<Single>(self.heap, text),
+            AmountKind::Purse => read::<Purse>(self.heap, text),
         }
     }
 
-    fn amount(&self, text: &[u8]) -> Result<Answer, AllocError> {
-        let Some(chosen) = self.chosen else {
-            return Ok(Answer::NotNow);
-        };
-        match chosen.amount {
-            AmountKind::Single => say_amount(self.heap, <Single as Amount>::read(text)),
-            AmountKind::Purse => say_amount(self.heap, <Purse as Amount>::read(text)),
-        }
-    }
-
-    fn join(&self, left: &[u64], right: &[u64]) -> Result<Answer, AllocError> {
+    fn join(&self, left: &[u64], right: &[u64]) -> Result<String, Stop> {
         let Some(chosen) = self.chosen else {
             let readable = some_amount(left) && some_amount(right);
-            return Ok(if readable {
-                Answer::NotNow
+            return Err(if readable {
+                Stop::NotNow
             } else {
-                Answer::Unreadable
+                Stop::Unreadable
             });
         };
         match chosen.amount {
@@ -133,43 +135,38 @@ impl Session {
         }
     }
 
-    fn check(&self, sheet: &[u8], file: &[u8]) -> Result<Answer, AllocError> {
-        let Some(chosen) = self.chosen else {
-            return Ok(Answer::NotNow);
-        };
+    fn check(&self, sheet: &[u8], file: &[u8]) -> Result<String, Stop> {
+        let chosen = self.chosen()?;
         match chosen.amount {
             AmountKind::Single => papers::place::<Single>(self.heap, chosen.digest, sheet, file),
             AmountKind::Purse => papers::place::<Purse>(self.heap, chosen.digest, sheet, file),
         }
     }
 
-    fn fields(&self, depth: u32, file: &[u8]) -> Result<Answer, AllocError> {
-        let Some(chosen) = self.chosen else {
-            return Ok(Answer::NotNow);
-        };
-        match chosen.amount {
+    fn fields(&self, depth: u32, file: &[u8]) -> Result<String, Stop> {
+        match self.chosen()?.amount {
             AmountKind::Single => papers::fields::<Single>(self.heap, depth, file),
             AmountKind::Purse => papers::fields::<Purse>(self.heap, depth, file),
         }
     }
 
     // Everything made before is gone.
-    fn choose(&mut self, chosen: Chosen) -> Result<Answer, AllocError> {
+    fn choose(&mut self, chosen: Chosen) -> Result<String, Stop> {
         self.chosen = Some(chosen);
         self.store = None;
         said(self.heap, "ready")
     }
 
-    fn make_store(&mut self, shape: Shape) -> Result<Answer, AllocError> {
+    fn make_store(&mut self, shape: Shape) -> Result<String, Stop> {
         self.store = Some(stores::made(self.heap, shape)?);
         said(self.heap, "store")
     }
 
     // A call to the store by itself.
-    fn to_store(&mut self, call: Call) -> Result<Answer, AllocError> {
+    fn to_store(&mut self, call: Call) -> Result<String, Stop> {
         let heap = self.heap;
         let Some(store) = &mut self.store else {
-            return Ok(Answer::NotNow);
+            return Err(Stop::NotNow);
         };
         match call {
             Call::Put(closing, place, record) => stores::put(heap, store, closing, place, &record),
@@ -177,17 +174,17 @@ impl Session {
             Call::Held(closing) => stores::held(heap, store, closing),
             Call::Clear(closing) => stores::clear(heap, store, closing),
             Call::Room => stores::room(heap, store),
-            _ => Ok(Answer::NotNow),
+            _ => Err(Stop::NotNow),
         }
     }
 
-    fn answer(&mut self, call: Call) -> Result<Answer, AllocError> {
+    fn answer(&mut self, call: Call) -> Result<String, Stop> {
         match call {
             Call::Use(amount, digest) => self.choose(Chosen { amount, digest }),
             Call::Digest(text) => self.digest(&text),
             Call::Amount(text) => self.amount(&text),
             Call::Join(left, right) => self.join(&left, &right),
-            Call::Measure(shape) => stores::done(self.heap, stores::measured(shape), "fits"),
+            Call::Measure(shape) => stores::measure(self.heap, shape),
             Call::Store(shape) => self.make_store(shape),
             Call::Check(sheet, file) => self.check(&sheet, &file),
             Call::Fields(depth, file) => self.fields(depth, &file),
@@ -195,28 +192,23 @@ impl Session {
         }
     }
 
-    // The answer to a line; nothing to a blank one or a remark.
-    fn line(&mut self, line: &[u8]) -> Result<Option<Answer>, AllocError> {
-        if blank(line) || line[0] == b'#' {
-            return Ok(None);
-        }
+    // The answer to a line that says something.
+    fn line(&mut self, line: &[u8]) -> Result<String, Stop> {
         let Ok(text) = std::str::from_utf8(line) else {
-            return Ok(Some(Answer::Unreadable));
+            return Err(Stop::Unreadable);
         };
-        match read_call(self.heap, text)? {
-            Some(call) => Ok(Some(self.answer(call)?)),
-            None => Ok(Some(Answer::Unreadable)),
-        }
+        let call = read_call(self.heap, text)?;
+        self.answer(call)
     }
 }
 
-fn show<W: Write>(out: &mut W, answer: Answer) -> std::io::Result<()> {
+fn show<W: Write>(out: &mut W, answer: Result<String, Stop>) -> anyhow::Result<()> {
     match answer {
-        Answer::Said(text) => out.write_all(text.as_bytes())?,
-        Answer::NotNow => out.write_all(b"not now")?,
-        Answer::Unreadable => out.write_all(b"unreadable")?,
+        Ok(text) => writeln!(out, "{text}")?,
+        Err(Stop::NoMemory(error)) => return Err(error.into()),
+        Err(stop) => writeln!(out, "{stop}")?,
     }
-    out.write_all(b"\n")
+    Ok(())
 }
 
 fn script(rt: &HostRuntime) -> anyhow::Result<()> {
@@ -228,8 +220,9 @@ fn script(rt: &HostRuntime) -> anyhow::Result<()> {
         store: None,
     };
     for line in BufReader::new(heap, rt.stdin())?.split(heap, b'\n') {
-        if let Some(answer) = session.line(&line?)? {
-            show(&mut out, answer)?;
+        let line = line?;
+        if !is_silent(&line) {
+            show(&mut out, session.line(&line))?;
         }
     }
     out.flush()?;
@@ -246,10 +239,7 @@ fn usage(rt: &HostRuntime) -> anyhow::Result<()> {
 fn main(rt: HostRuntime) -> anyhow::Result<()> {
     let mut args = env::args(&rt)?;
     let _program = args.next();
-    let script_asked = match args.next() {
-        Some(word) => word.as_str() == "script",
-        None => false,
-    };
+    let script_asked = args.next().is_some_and(|word| word.as_str() == "script");
     if script_asked && args.next().is_none() {
         return script(&rt);
     }

@@ -1,11 +1,11 @@
 //! Sheets and files as a script hands them in: the fields of a file, and the check.
-use crate::words::show_bytes;
-use crate::{Answer, refused};
+use crate::Stop;
+use crate::words::Shown;
 use amount::Amount;
 use digest::kinds::AnyDigest;
 use file::Fields;
-use file::types::{Field, Found};
-use std::alloc::{AllocError, Global};
+use file::types::Field;
+use std::alloc::Global;
 use verify::check;
 
 pub(crate) fn place<A: Amount>(
@@ -13,14 +13,9 @@ pub(crate) fn place<A: Amount>(
     digest: AnyDigest,
     sheet: &[u8],
     file: &[u8],
-) -> Result<Answer, AllocError> {
-    match check::<A, AnyDigest>(&digest, sheet, file) {
-        Ok(place) => {
-            let n = place.0;
-            Ok(Answer::Said(format!(in heap; "place {n}")?))
-        }
-        Err(r) => refused(heap, r),
-    }
+) -> Result<String, Stop> {
+    let n = check::<A, AnyDigest>(&digest, sheet, file)?.0;
+    Ok(format!(in heap; "place {n}")?)
 }
 
 fn name_and_part<'a>(field: Field<'a>) -> (&'static str, &'a [u8]) {
@@ -33,26 +28,13 @@ fn name_and_part<'a>(field: Field<'a>) -> (&'static str, &'a [u8]) {
     }
 }
 
-fn show_field(heap: Global, line: &mut String, found: Found) -> Result<(), AllocError> {
-    let offset = found.offset;
-    let (name, part) = name_and_part(found.field);
-    line.push_str(format!(in heap; " {name}@{offset}=")?.as_str())?;
-    show_bytes(line, part)
-}
-
-pub(crate) fn fields<A: Amount>(
-    heap: Global,
-    depth: u32,
-    file: &[u8],
-) -> Result<Answer, AllocError> {
+pub(crate) fn fields<A: Amount>(heap: Global, depth: u32, file: &[u8]) -> Result<String, Stop> {
     let mut line = String::from_str(heap, "fields")?;
-    let mut reader = Fields::new::<A>(file, depth);
-    // a file has at most 24 fields
-    for _ in 0..24 {
-        let Some(found) = reader.next() else {
-            break;
-        };
-        show_field(heap, &mut line, found)?;
+    for found in Fields::new::<A>(file, depth) {
+        let offset = found.offset;
+        let (name, part) = name_and_part(found.field);
+        let part = Shown(part);
+        line.push_str(format!(in heap; " {name}@{offset}={part}")?.as_str())?;
     }
-    Ok(Answer::Said(line))
+    Ok(line)
 }

@@ -1,46 +1,30 @@
 //! A store by itself, as a script makes and calls it.
-use crate::calls::Shape;
-use crate::words::show_bytes;
-use crate::{Answer, refused, said};
+use crate::calls::{Shape, StoreKind};
+use crate::words::Shown;
+use crate::{Stop, said};
 use anystore::types::AnyStore;
 use chained::types::Chained;
 use flat::types::Flat;
 use numbering::{Closing, Key, Place};
-use refusal::cases::Refusal;
 use std::alloc::{AllocError, Global};
 use store::NodeStore;
-use store::limits::Limits;
 
-fn limits_of(shape: Shape) -> Limits {
-    Limits {
-        width: shape.width as usize,
-        first: shape.first,
-        last: shape.last,
-        bound: shape.bound,
+pub(crate) fn measure(heap: Global, shape: Shape) -> Result<String, Stop> {
+    let memory = shape.memory as usize;
+    match shape.kind {
+        StoreKind::Flat => flat::measure(shape.limits, memory)?,
+        StoreKind::Chained(count) => chained::measure(shape.limits, count, memory)?,
     }
-}
-
-pub(crate) fn measured(shape: Shape) -> Result<(), Refusal> {
-    match shape.count {
-        None => flat::measure(limits_of(shape), shape.memory as usize),
-        Some(count) => chained::measure(limits_of(shape), count, shape.memory as usize),
-    }
+    said(heap, "fits")
 }
 
 // A new store over a memory of its own, each byte a5.
 pub(crate) fn made(heap: Global, shape: Shape) -> Result<AnyStore, AllocError> {
     let memory = vec![in heap; 0xa5; shape.memory as usize]?;
-    match shape.count {
-        None => Ok(AnyStore::Flat(Flat::new(memory, limits_of(shape)))),
-        Some(count) => Ok(AnyStore::Chained(Chained::new(memory, limits_of(shape), count))),
-    }
-}
-
-pub(crate) fn done(heap: Global, r: Result<(), Refusal>, word: &str) -> Result<Answer, AllocError> {
-    match r {
-        Ok(()) => said(heap, word),
-        Err(r) => refused(heap, r),
-    }
+    Ok(match shape.kind {
+        StoreKind::Flat => AnyStore::Flat(Flat::new(memory, shape.limits)),
+        StoreKind::Chained(count) => AnyStore::Chained(Chained::new(memory, shape.limits, count)),
+    })
 }
 
 fn key(closing: u32, place: u32) -> Key {
@@ -56,8 +40,9 @@ pub(crate) fn put(
     closing: u32,
     place: u32,
     record: &[u8],
-) -> Result<Answer, AllocError> {
-    done(heap, store.put(key(closing, place), record), "put")
+) -> Result<String, Stop> {
+    store.put(key(closing, place), record)?;
+    said(heap, "put")
 }
 
 pub(crate) fn get(
@@ -66,34 +51,25 @@ pub(crate) fn get(
     closing: u32,
     place: u32,
     len: u32,
-) -> Result<Answer, AllocError> {
+) -> Result<String, Stop> {
     let mut buffer = vec![in heap; 0xee; len as usize]?;
-    match store.get(key(closing, place), &mut buffer) {
-        Ok(found) => {
-            let mut line = String::from_str(heap, if found { "found " } else { "absent " })?;
-            show_bytes(&mut line, &buffer)?;
-            Ok(Answer::Said(line))
-        }
-        Err(r) => refused(heap, r),
-    }
+    let found = store.get(key(closing, place), &mut buffer)?;
+    let word = if found { "found" } else { "absent" };
+    let bytes = Shown(&buffer);
+    Ok(format!(in heap; "{word} {bytes}")?)
 }
 
-pub(crate) fn held(heap: Global, store: &AnyStore, closing: u32) -> Result<Answer, AllocError> {
-    match store.held(Closing(closing)) {
-        Ok(n) => Ok(Answer::Said(format!(in heap; "held {n}")?)),
-        Err(r) => refused(heap, r),
-    }
+pub(crate) fn held(heap: Global, store: &AnyStore, closing: u32) -> Result<String, Stop> {
+    let n = store.held(Closing(closing))?;
+    Ok(format!(in heap; "held {n}")?)
 }
 
-pub(crate) fn clear(
-    heap: Global,
-    store: &mut AnyStore,
-    closing: u32,
-) -> Result<Answer, AllocError> {
-    done(heap, store.clear(Closing(closing)), "cleared")
+pub(crate) fn clear(heap: Global, store: &mut AnyStore, closing: u32) -> Result<String, Stop> {
+    store.clear(Closing(closing))?;
+    said(heap, "cleared")
 }
 
-pub(crate) fn room(heap: Global, store: &AnyStore) -> Result<Answer, AllocError> {
+pub(crate) fn room(heap: Global, store: &AnyStore) -> Result<String, Stop> {
     let n = store.room();
-    Ok(Answer::Said(format!(in heap; "room {n}")?))
+    Ok(format!(in heap; "room {n}")?)
 }

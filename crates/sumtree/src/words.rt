@@ -1,126 +1,98 @@
 //! The words of a script: numbers, bytes and amounts, and how they are shown.
+use crate::Stop;
 use amount::Amount;
-use std::alloc::{AllocError, Global};
+use hexadecimal::Hex;
+use std::alloc::Global;
+use std::fmt;
 
 // A number in decimal digits, and nothing else.
-pub(crate) fn number(word: &str) -> Option<u64> {
-    for b in word.bytes() {
-        if !b.is_ascii_digit() {
-            return None;
-        }
+pub(crate) fn number(word: &str) -> Result<u64, Stop> {
+    if !word.bytes().all(|b| b.is_ascii_digit()) {
+        return Err(Stop::Unreadable);
     }
-    word.parse::<u64>().ok()
+    word.parse::<u64>().map_err(|_| Stop::Unreadable)
 }
 
-pub(crate) fn number32(word: &str) -> Option<u32> {
-    match number(word) {
-        Some(n) => u32::try_from(n).ok(),
-        None => None,
-    }
+pub(crate) fn number32(word: &str) -> Result<u32, Stop> {
+    u32::try_from(number(word)?).map_err(|_| Stop::Unreadable)
 }
 
-fn hex_digit(b: u8) -> Option<u8> {
+fn hex_digit(b: u8) -> Result<u8, Stop> {
     match b {
-        b'0'..=b'9' => Some(b - b'0'),
-        b'a'..=b'f' => Some(b - b'a' + 10),
-        _ => None,
+        b'0'..=b'9' => Ok(b - b'0'),
+        b'a'..=b'f' => Ok(b - b'a' + 10),
+        _ => Err(Stop::Unreadable),
     }
 }
 
-fn hex_byte(high: u8, low: u8) -> Option<u8> {
-    match (hex_digit(high), hex_digit(low)) {
-        (Some(h), Some(l)) => Some((h & 15) * 16 + (l & 15)),
-        _ => None,
-    }
+fn hex_byte(high: u8, low: u8) -> Result<u8, Stop> {
+    Ok((hex_digit(high)? << 4) | hex_digit(low)?)
 }
 
 // The bytes of pairs of hexadecimal digits.
-fn hex(heap: Global, digits: &[u8]) -> Result<Option<Vec<u8>>, AllocError> {
-    let mut out = Vec::new(heap);
-    let mut high = None;
-    for b in digits {
-        match high {
-            None => high = Some(*b),
-            Some(h) => {
-                let Some(byte) = hex_byte(h, *b) else {
-                    return Ok(None);
-                };
-                out.push(byte)?;
-                high = None;
-            }
-        }
+fn hex(heap: Global, digits: &[u8]) -> Result<Vec<u8>, Stop> {
+    let (pairs, rest) = digits.as_chunks::<2>();
+    if !rest.is_empty() {
+        return Err(Stop::Unreadable);
     }
-    if high.is_some() {
-        return Ok(None);
-    }
-    Ok(Some(out))
+    pairs
+        .iter()
+        .map(|[high, low]| hex_byte(*high, *low))
+        .try_collect(heap)
 }
 
 // COUNT*BB: as many bytes, each the same.
-fn repeated(heap: Global, count: &str, byte: &str) -> Result<Option<Vec<u8>>, AllocError> {
+fn repeated(heap: Global, count: &str, byte: &str) -> Result<Vec<u8>, Stop> {
     let [high, low] = byte.as_bytes() else {
-        return Ok(None);
+        return Err(Stop::Unreadable);
     };
-    match (number32(count), hex_byte(*high, *low)) {
-        (Some(n), Some(b)) => Ok(Some(vec![in heap; b; n as usize]?)),
-        _ => Ok(None),
-    }
+    let count = number32(count)?;
+    let byte = hex_byte(*high, *low)?;
+    Ok(vec![in heap; byte; count as usize]?)
 }
 
 // Bytes: hexadecimal, `-` for none, or COUNT*BB.
-pub(crate) fn bytes(heap: Global, word: &str) -> Result<Option<Vec<u8>>, AllocError> {
-    if word == "-" {
-        return Ok(Some(Vec::new(heap)));
-    }
-    if word.is_empty() {
-        return Ok(None);
-    }
-    match word.split_once('*') {
-        Some((count, byte)) => repeated(heap, count, byte),
-        None => hex(heap, word.as_bytes()),
+pub(crate) fn bytes(heap: Global, word: &str) -> Result<Vec<u8>, Stop> {
+    match word {
+        "" => Err(Stop::Unreadable),
+        "-" => Ok(Vec::new(heap)),
+        _ => match word.split_once('*') {
+            Some((count, byte)) => repeated(heap, count, byte),
+            None => hex(heap, word.as_bytes()),
+        },
     }
 }
 
-// Numbers joined by `+`, as an amount is written.
-pub(crate) fn numbers(heap: Global, word: &str) -> Result<Option<Vec<u64>>, AllocError> {
-    let mut found = Vec::new(heap);
-    for part in word.split('+') {
-        match number(part) {
-            Some(n) => found.push(n)?,
-            None => return Ok(None),
+// ShownAmount joined by `+`, as an amount is written.
+pub(crate) fn numbers(heap: Global, word: &str) -> Result<Vec<u64>, Stop> {
+    word.split('+').map(|part| number(part)).try_collect(heap)
+}
+
+// Bytes as a script writes them.
+#[derive(Clone, Copy)]
+pub(crate) struct Shown<'a>(pub &'a [u8]);
+
+impl fmt::Display for Shown<'_> {
+    fn fmt<W: fmt::Write>(&self, f: &mut fmt::Formatter<W>) -> fmt::Result {
+        if self.0.is_empty() {
+            return write!(f, "-");
         }
+        let bytes = Hex(self.0);
+        write!(f, "{bytes}")
     }
-    Ok(Some(found))
 }
 
-static DIGITS: [char; 16] = [
-    '0', '1', '2', '3', '4', '5', '6', '7', '8', '9', 'a', 'b', 'c', 'd', 'e', 'f',
-];
+// An amount as a script writes it.
+#[derive(Clone, Copy)]
+pub(crate) struct ShownAmount<A>(pub A);
 
-// Puts bytes behind what there is, as a script writes them.
-pub(crate) fn show_bytes(out: &mut String, bytes: &[u8]) -> Result<(), AllocError> {
-    if bytes.is_empty() {
-        return out.push('-');
-    }
-    for b in bytes {
-        out.push(DIGITS[(*b >> 4) as usize])?;
-        out.push(DIGITS[(*b & 15) as usize])?;
-    }
-    Ok(())
-}
-
-// Puts an amount behind what there is, as a script writes it.
-pub(crate) fn show_amount<A: Amount>(
-    heap: Global,
-    out: &mut String,
-    amount: A,
-) -> Result<(), AllocError> {
-    for i in 0..A::count() {
-        if i > 0 {
-            out.push('+')?;
+impl<A: Amount> fmt::Display for ShownAmount<A> {
+    fn fmt<W: fmt::Write>(&self, f: &mut fmt::Formatter<W>) -> fmt::Result {
+        for i in 0..A::count() {
+            let n = self.0.number_at(i);
+            let joint = if i == 0 { "" } else { "+" };
+            write!(f, "{joint}{n}")?;
         }
-        let n = amount.number_at(i);
-        out.push_str(format!(in heap; "{n}")?.as_str())?;
+        Ok(())
     }
-    Ok(())
 }
