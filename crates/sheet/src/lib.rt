@@ -64,7 +64,7 @@ pub fn read<A: Amount, D: Digest>(digest: &D, bytes: &[u8]) -> Result<Sheet<A>, 
 pub fn head<A: Amount, D: Digest>(digest: &D, closing: Closing, depth: u8) -> [u8; 7]
     ensures { result ≡ head_bytes A.kind (D.hash digest.now) closing.0 depth }
 {
-    let [a, b, c, d] = closing.0.be_bytes();
+    let [a, b, c, d]: [u8; 4] = closing.0.be_bytes();
     [A::number(), digest.number(), depth, a, b, c, d]
 }
 
