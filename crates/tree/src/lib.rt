@@ -40,7 +40,9 @@ impl<'a, A: Amount, D: Digest> Leaves<'a, A, D> {
     fn node(&self, height: u32, n: u32) -> Result<Node<A>, Refusal>
         requires { (n + 1) * 2 ^ height ≤ 2 ^ 20 }
         ensures { Answers result
-            (first ((not (A.kind.writable (node_at A.kind (D.hash self.now.digest.now) self.now.closing.0 (lines_of A.meaning self.now.lines.now) height n).amount) ⇒ JoinUnwritable 0) ∷ []))
+            (first ((not (A.kind.writable
+            (node_at A.kind (D.hash self.now.digest.now) self.now.closing.0 (lines_of A.meaning self.now.lines.now) height n).amount)
+            ⇒ JoinUnwritable 0) ∷ []))
             (λ x. node_of A.meaning x ≡ node_at A.kind (D.hash self.now.digest.now) self.now.closing.0 (lines_of A.meaning self.now.lines.now) height n) }
     {
         if height == 0 {
