@@ -26,6 +26,7 @@ pub static H0: [u32; 8] = [
 ];
 
 // The round constants: the cube roots of the primes up to 311.
+#[tactic(auto, using(crate::proofs::Rule::cube_roots), unfolding(crate::specs::Tables::round_constants))]
 pub fn round_constants() -> [u32; 64]
     ensures table { result ≡ round_constants }
     ensures rule { Fractions 3 (primes 310) result }
@@ -34,6 +35,7 @@ pub fn round_constants() -> [u32; 64]
 }
 
 // The starting words: the square roots of the primes up to 19.
+#[tactic(auto, using(crate::proofs::Rule::square_roots), unfolding(crate::specs::Tables::initial_hash))]
 pub fn initial_hash() -> [u32; 8]
     ensures table { result ≡ initial_hash }
     ensures rule { Fractions 2 (primes 18) result }

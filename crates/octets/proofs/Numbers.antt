@@ -60,9 +60,6 @@ be_bytes zero x i = omega arith
 be_bytes (suc n) x zero = omega arith
 be_bytes (suc n) x (suc i) = be_bytes n x i
 
--- the forms in which the numbers' own methods say it
-pub be_4 : (x : ℕ) → (x / 16777216 % 256) ∷ (x / 65536 % 256) ∷ (x / 256 % 256) ∷ (x % 256) ∷ [] ≡ be 4 x
-be_4 x = simp div-one
-
+-- the form in which the numbers' own method says it
 pub be_8 : (x : ℕ) → (x / 72057594037927936 % 256) ∷ (x / 281474976710656 % 256) ∷ (x / 1099511627776 % 256) ∷ (x / 4294967296 % 256) ∷ (x / 16777216 % 256) ∷ (x / 65536 % 256) ∷ (x / 256 % 256) ∷ (x % 256) ∷ [] ≡ be 8 x
 be_8 x = simp div-one

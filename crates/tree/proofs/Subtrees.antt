@@ -1,5 +1,5 @@
 -- The nodes of a tree: how long their amounts are, and that a part can be written where the whole can.
-use Rattle.std.proofs.Common.{◌≡◌, ℕ, zero, suc, ◌+◌, ◌-◌, ◌*◌, ◌^◌, ◌<◌, ◌≤◌, Bool, true, false, not, ◌||◌, T, ltb, leb, List, [], ◌∷◌, map, length, get_or, Some, None, Option, Result, sym, refl, ap, ◌∙◌, subst, le_of_suc-le-suc, not-suc-le-zero, mul-le-mul_right, mul_assoc, mul-le-mul_left, arith, ltb→lt, lt→ltb, nltb→le, pow_mono, pow-add}
+use Rattle.std.proofs.Common.{◌≡◌, ℕ, zero, suc, ◌+◌, ◌-◌, ◌*◌, ◌^◌, ◌<◌, ◌≤◌, Bool, true, false, not, ◌||◌, T, ltb, leb, List, [], ◌∷◌, map, length, Some, None, Option, Result, sym, refl, ap, ◌∙◌, subst, mul-le-mul_right, mul_assoc, mul-le-mul_left, arith, ltb→lt, lt→ltb, nltb→le, pow_mono, pow-add}
 use native.Mathlib.Nat.{one-le-pow, pow-succ'}
 use lib.Dec.{nleb→lt, not_T}
 use Rattle.octets.proofs.Passes.{true_T, false_T}
@@ -13,17 +13,6 @@ use Rattle.amount.proofs.Joins as joins
 use Rattle.digest.specs.Hashes.{Hash}
 use Rattle.node.specs.Texts.{Line, Node, inner_node}
 use Rattle.tree.specs.Trees.{leaf_at, node_at, bad_limits}
-
--- line n of lines that are mapped
-pub nth_line : {A : Type 0} (f : A → Line) (xs : List A) (n : ℕ) (x : A) → n < length xs → x ≡ get_or xs n x → slice_get (map f xs) n ≡ Some (f x)
-nth_line f [] n x h e = absurd (not-suc-le-zero h)
-nth_line f (y ∷ xs) zero x h e = ap (λ z. Some (f z)) (sym e)
-nth_line f (y ∷ xs) (suc n) x h e = nth_line f xs n x (le_of_suc-le-suc h) e
-
-pub nth_none : {A : Type 0} (f : A → Line) (xs : List A) (n : ℕ) → length xs ≤ n → slice_get (map f xs) n ≡ None
-nth_none f [] n h = refl
-nth_none f (y ∷ xs) zero h = absurd (not-suc-le-zero h)
-nth_none f (y ∷ xs) (suc n) h = nth_none f xs n (le_of_suc-le-suc h)
 
 -- what holds of each line that is mapped holds of each that is found
 pub nth_each : {A : Type 0} (f : A → Line) (P : Line → Type 0) → ((x : A) → P (f x)) → (xs : List A) (n : ℕ) (l : Line) → slice_get (map f xs) n ≡ Some l → P l

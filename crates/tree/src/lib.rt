@@ -17,45 +17,44 @@ use node::{inner, leaf, padding};
 use numbering::{Closing, Leaf};
 use refusal::cases::Refusal;
 
-// Leaf n of a ledger's tree.
-fn leaf_or_padding<A: Amount, D: Digest>(
-    digest: &D,
+// A ledger, and the digest that its tree is made with.
+#[derive(Drop)]
+struct Leaves<'a, A, D> {
+    digest: &'a D,
     closing: Closing,
-    lines: &[Line<A>],
-    n: u32,
-) -> Node<A>
-    ensures { node_of A.meaning result ≡ node_at A.kind (D.hash digest.now) closing.0 (lines_of A.meaning lines.now) 0 n }
-{
-    let i = n as usize;
-    if i < lines.len() {
-        leaf(digest, closing, &lines[i])
-    } else {
-        padding(digest, closing, Leaf(n))
+    lines: &'a [Line<A>],
+}
+
+impl<'a, A: Amount, D: Digest> Leaves<'a, A, D> {
+    // Leaf n of the tree.
+    fn leaf(&self, n: u32) -> Node<A>
+        ensures { node_of A.meaning result ≡ node_at A.kind (D.hash self.now.digest.now) self.now.closing.0 (lines_of A.meaning self.now.lines.now) 0 n }
+    {
+        match self.lines.get(n as usize) {
+            Some(line) => leaf(self.digest, self.closing, line),
+            None => padding(self.digest, self.closing, Leaf(n)),
+        }
+    }
+
+    // Node n of a height; refused exactly where its amount cannot be written.
+    fn node(&self, height: u32, n: u32) -> Result<Node<A>, Refusal>
+        requires { (n + 1) * 2 ^ height ≤ 2 ^ 20 }
+        ensures { Answers result
+            (first ((not (A.kind.writable
+            (node_at A.kind (D.hash self.now.digest.now) self.now.closing.0 (lines_of A.meaning self.now.lines.now) height n).amount)
+            ⇒ JoinUnwritable 0) ∷ []))
+            (λ x. node_of A.meaning x ≡ node_at A.kind (D.hash self.now.digest.now) self.now.closing.0 (lines_of A.meaning self.now.lines.now) height n) }
+    {
+        if height == 0 {
+            return Ok(self.leaf(n));
+        }
+        let left = self.node(height - 1, 2 * n)?;
+        let right = self.node(height - 1, 2 * n + 1)?;
+        inner(self.digest, &left, &right)
     }
 }
 
-// Node n of a height; refused exactly where its amount cannot be written.
-fn subtree<A: Amount, D: Digest>(
-    digest: &D,
-    closing: Closing,
-    lines: &[Line<A>],
-    height: u32,
-    n: u32,
-) -> Result<Node<A>, Refusal>
-    requires { (n + 1) * 2 ^ height ≤ 2 ^ 20 }
-    ensures { Answers result
-        (first ((not (A.kind.writable (node_at A.kind (D.hash digest.now) closing.0 (lines_of A.meaning lines.now) height n).amount) ⇒ JoinUnwritable 0) ∷ []))
-        (λ x. node_of A.meaning x ≡ node_at A.kind (D.hash digest.now) closing.0 (lines_of A.meaning lines.now) height n) }
-{
-    if height == 0 {
-        return Ok(leaf_or_padding(digest, closing, lines, n));
-    }
-    let left = subtree(digest, closing, lines, height - 1, 2 * n)?;
-    let right = subtree(digest, closing, lines, height - 1, 2 * n + 1)?;
-    inner(digest, &left, &right)
-}
-
-// How many leaves a tree of a depth has; no tree is deeper than 20.
+// How many leaves a tree of a depth has: none past 20, since no tree is deeper.
 pub fn leaf_count(depth: u32) -> u32
     ensures leaves { depth ≤ 20 → result ≡ 2 ^ depth }
     ensures none { 20 < depth → result ≡ 0 }
@@ -67,7 +66,7 @@ pub fn leaf_count(depth: u32) -> u32
 pub fn bad_limits(closing: Closing, depth: u32) -> bool
     ensures { result ≡ bad_limits closing.0 depth }
 {
-    depth > 20 || closing.0 < 1 || closing.0 > 9999
+    depth > 20 || !(1..=9999).contains(&closing.0)
 }
 
 // Whether a tree has no node n of a height.
@@ -102,5 +101,10 @@ pub fn tree_node<A: Amount, D: Digest>(
     if no_node(depth, height, n) {
         return Err(Refusal::LeafOutside);
     }
-    subtree(digest, closing, lines, height, n)
+    let leaves = Leaves {
+        digest,
+        closing,
+        lines,
+    };
+    leaves.node(height, n)
 }

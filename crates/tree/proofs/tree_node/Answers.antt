@@ -18,8 +18,8 @@ returns-then-no_node g c =
     let o : ltb c.args.depth c.args.height || leb (2 ^ (c.args.depth - c.args.height)) c.args.n ≡ true = sym c.if-no_node.ensures in
     rw (b, m, o)
 
-pub subtree-requires : goal.subtree-requires
-subtree-requires g c = has_node c.args.depth c.args.height c.args.n c.args.closing.0 (sym c.if-bad_limits.ensures) (sym c.if-no_node.ensures)
+pub node-requires : goal.node-requires
+node-requires g c = has_node c.args.depth c.args.height c.args.n c.args.closing.0 (sym c.if-bad_limits.ensures) (sym c.if-no_node.ensures)
 
 pub returns : goal.returns
 returns g c =
@@ -30,5 +30,5 @@ returns g c =
     let lawful = g.met.A.Amount in
     let xs = c.args.lines.now in
     let fit = nth_each (line_of a.meaning) (λ l. T (a.kind.writable l.balance)) (λ x. lawful.sound x.balance) xs in
-    let root = at_root lawful.lawful (g.D.Digest.hash c.args.digest.now) c.args.closing.0 (lines_of a.meaning xs) fit (node_of a.meaning) c.subtree.result _ c.args.depth c.args.height c.args.n m o c.subtree.ensures in
+    let root = at_root lawful.lawful (g.D.Digest.hash c.args.digest.now) c.args.closing.0 (lines_of a.meaning xs) fit (node_of a.meaning) c.node.result _ c.args.depth c.args.height c.args.n m o c.node.ensures in
     rw (b, m, o) root
