@@ -28,6 +28,7 @@ pub(crate) fn write_part(memory: &mut [u8], at: usize, bytes: &[u8])
 }
 
 // Where record `number` starts.
+#[tactic(auto, unfolding(chained_theory::specs::Layout::start_of))]
 pub(crate) fn start(width: usize, number: u32) -> usize
     requires narrow { width ≤ 128 }
     requires few { (1 ≤ number) × (number ≤ 4194304) }

@@ -37,6 +37,7 @@ impl<'a> Record<'a> {
     }
 
     // Where it starts.
+    #[tactic(auto, using(crate::proofs::Rules::places))]
     pub(crate) fn start(self) -> usize
         ensures is { result ≡ start_of_record self.entry }
         ensures fits { result + (12 + width_of self.entry) ≤ length (memory_of self.entry) }

@@ -26,6 +26,7 @@ use store::limits::{Extent, Limits};
 use types::Flat;
 
 // The extent of a store with these limits, where it fits in so many bytes.
+#[tactic(auto, using(flat_theory::proofs::Finds::flat_small))]
 fn fitting(limits: Limits, memory: usize) -> Result<Extent, Refusal>
     ensures { Answers result (refusal_of limits memory) (λ extent. extent.limits ≡ limits) }
 {
@@ -109,6 +110,7 @@ impl Flat {
     }
 
     // Where the slot of a key starts.
+    #[tactic(auto, using(crate::proofs::Rules::places), unfolding(flat_theory::specs::Layout::slot_of))]
     fn slot(&self, key: Key) -> usize
         requires { inside (flat_meaning self.now) key.closing.0 key.place.0 ≡ true }
         ensures is { result ≡ start_of self.now.extent.limits key.closing.0 key.place.0 }
