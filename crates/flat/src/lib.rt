@@ -176,12 +176,12 @@ impl NodeStore for Flat {
     fn get(&mut self, key: Key, into: &mut [u8]) -> Result<bool, Refusal> {
         self.extent.limits.admit(key, into.len())?;
         let at = self.slot(key);
-        if !self.is_written(at) {
-            return Ok(false);
+        let found = self.is_written(at);
+        if found {
+            let end = at + 1 + into.len();
+            into.copy_from_slice(&self.memory[at + 1..end]);
         }
-        let end = at + 1 + into.len();
-        into.copy_from_slice(&self.memory[at + 1..end]);
-        Ok(true)
+        Ok(found)
     }
 
     fn held(&self, closing: Closing) -> Result<u32, Refusal> {
