@@ -233,7 +233,7 @@ impl Chained {
         requires { in_span (chained_meaning self.now) closing.0 ≡ true }
         ensures { result ≡ held_in (chained_meaning self.now) closing.0 }
     {
-        let is_of = |number: &u32| Record::new(self, *number).closing() == closing.0;
+        let is_of = |number: &u32| Record::new(self, *number).key().closing == closing;
         (1..self.count + 1).filter(is_of).count() as u32
     }
 
