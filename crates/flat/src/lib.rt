@@ -12,9 +12,8 @@ ghost use Rattle.memory.specs.Part.{patch};
 ghost use Rattle.store.specs.Meaning.{in_span, inside};
 ghost use Rattle.store.specs.Counts.{held as held_in};
 ghost use Rattle.store.specs.Calls.{Empty};
-ghost use Rattle.flat_theory.specs.Layout.{slot_at};
 ghost use Rattle.flat.specs.Sizes.{bytes_of, refusal_of, start_of};
-ghost use Rattle.flat.specs.Meaning.{flat_meaning, IsEmpty};
+ghost use Rattle.flat.specs.Meaning.{flat_meaning, slot_in, IsEmpty};
 ghost use Rattle.flat.specs.Sounds.{flat_sound};
 
 pub mod types;
@@ -124,7 +123,7 @@ impl Flat {
     // Whether the slot at `at` is written.
     fn is_written(&self, at: usize) -> bool
         requires { at < vec_len self.now.memory }
-        ensures { result ≡ is_some (slot_at self.now.memory.items self.now.extent.limits.width at) }
+        ensures { result ≡ is_some (slot_in self.now at) }
     {
         let mark = self.memory[at];
         mark == 1
@@ -133,8 +132,8 @@ impl Flat {
     // The room once the slot at `at` is written.
     fn room_after(&self, at: usize) -> u64
         requires within { at < vec_len self.now.memory }
-        requires some { slot_at self.now.memory.items self.now.extent.limits.width at ≡ None → 1 ≤ self.now.room }
-        ensures { result + (if is_some (slot_at self.now.memory.items self.now.extent.limits.width at) then 0 else 1) ≡ self.now.room }
+        requires some { slot_in self.now at ≡ None → 1 ≤ self.now.room }
+        ensures { result + (if is_some (slot_in self.now at) then 0 else 1) ≡ self.now.room }
     {
         if self.is_written(at) {
             self.room
