@@ -4,7 +4,7 @@ ghost use Rattle.memory.specs.Four.{be4, put4};
 ghost use Rattle.memory.specs.Part.{patch};
 ghost use Rattle.chained_theory.specs.Layout.{start_of};
 
-// The number of four bytes at `at`.
+// The number of four bytes at `at`. Four indices, since a slice would have to be turned into an array, a case that may fail.
 pub(crate) fn read4(memory: &[u8], at: usize) -> u32
     requires { at + 4 ≤ length memory.now }
     ensures { result ≡ be4 memory.now at }
@@ -28,6 +28,7 @@ pub(crate) fn write_part(memory: &mut [u8], at: usize, bytes: &[u8])
 }
 
 // Where record `number` starts.
+#[tactic(auto, unfolding(chained_theory::specs::Layout::start_of))]
 pub(crate) fn start(width: usize, number: u32) -> usize
     requires narrow { width ≤ 128 }
     requires few { (1 ≤ number) × (number ≤ 4194304) }

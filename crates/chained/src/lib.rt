@@ -45,6 +45,7 @@ fn home(key: Key) -> usize
     if key.closing.0 == 0 { 0 } else { bucket(key) }
 }
 
+#[tactic(auto, unfolding(chained_theory::specs::Layout::filled))]
 fn fill_record(memory: &mut [u8], at: usize, next: u32, key: Key, bytes: &[u8])
     requires { at + 12 + length bytes.now ≤ length memory.old }
     ensures { memory.new ≡ filled memory.old at next key.closing.0 key.place.0 bytes.now }
@@ -56,6 +57,7 @@ fn fill_record(memory: &mut [u8], at: usize, next: u32, key: Key, bytes: &[u8])
 }
 
 // Moves a record from the front of the free chain to the front of the key's bucket.
+#[tactic(auto, using(crate::proofs::Rules::places))]
 fn push_on(memory: &mut [u8], number: u32, key: Key, bytes: &[u8])
     requires narrow { length bytes.now ≤ 128 }
     requires few { (1 ≤ number) × (number ≤ 4194304) }
@@ -100,6 +102,7 @@ fn zero_heads(memory: &mut [u8])
 }
 
 // Puts a record, which starts at `at`, in front of a chain, with this closing.
+#[tactic(auto, unfolding(chained_theory::specs::Layout::front_of))]
 fn front_of(memory: &mut [u8], at: usize, number: u32, chain: usize, closing: u32)
     requires fits { at + 8 ≤ length memory.old }
     requires past { 68 ≤ at }
@@ -114,7 +117,7 @@ fn front_of(memory: &mut [u8], at: usize, number: u32, chain: usize, closing: u3
 
 // Lays the chains out anew from the records alone, without those that are forgotten. One walk over the records, which
 // answers how many are free now.
-#[tactic(auto, using(chained_theory::proofs::Walks::record_fits, chained_theory::proofs::Writes::past_heads, chained_theory::proofs::Fronts::home_high))]
+#[tactic(auto, using(crate::proofs::Rules::places))]
 fn relay(memory: &mut [u8], width: usize, count: u32, forgotten: Forgotten) -> u32
     requires narrow { (width ≤ 128) × (count ≤ 4194304) }
     requires fits { chained_bytes width count ≤ length memory.old }
@@ -230,7 +233,7 @@ impl Chained {
         requires { in_span (chained_meaning self.now) closing.0 ≡ true }
         ensures { result ≡ held_in (chained_meaning self.now) closing.0 }
     {
-        let is_of = |number: &u32| Record::new(self, *number).closing() == closing.0;
+        let is_of = |number: &u32| Record::new(self, *number).key().closing == closing;
         (1..self.count + 1).filter(is_of).count() as u32
     }
 

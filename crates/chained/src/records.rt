@@ -3,7 +3,7 @@ ghost use Rattle.std.specs.Prelude.{◌≡◌, ◌+◌, ◌≤◌, length};
 
 use crate::bytes::{read4, start};
 use crate::types::Chained;
-use numbering::Key;
+use numbering::{Closing, Key, Place};
 
 // One of the records 1 to `count` of a store.
 #[derive(Clone, Copy)]
@@ -14,7 +14,7 @@ pub(crate) struct Record<'a> {
 }
 
 impl<'a> Record<'a> {
-    ghost use Rattle.chained.specs.Records.{IsRecord, memory_of, width_of, start as start_of_record, next as next_of_record, closing as closing_of_record, has as record_has, bytes as bytes_of_record};
+    ghost use Rattle.chained.specs.Records.{IsRecord, memory_of, width_of, record_start, record_next, record_closing, record_place, record_has, record_bytes};
 
     pub(crate) fn new(store: &'a Chained, number: u32) -> Record<'a>
         requires { (1 ≤ number) × (number ≤ store.now.count) }
@@ -37,8 +37,9 @@ impl<'a> Record<'a> {
     }
 
     // Where it starts.
+    #[tactic(auto, using(crate::proofs::Rules::places))]
     pub(crate) fn start(self) -> usize
-        ensures is { result ≡ start_of_record self.entry }
+        ensures is { result ≡ record_start self.entry }
         ensures fits { result + (12 + width_of self.entry) ≤ length (memory_of self.entry) }
     {
         start(self.store.extent.limits.width, self.number)
@@ -47,31 +48,33 @@ impl<'a> Record<'a> {
     // The record that follows in its chain.
     #[tactic(auto, unfolding(chained_theory::specs::Layout::next_at))]
     pub(crate) fn next(self) -> Option<Record<'a>>
-        ensures { IsRecord result self.entry.store.now (next_of_record self.entry) }
+        ensures { IsRecord result self.entry.store.now (record_next self.entry) }
     {
         Record::at(self.store, read4(&self.store.memory, self.start()))
     }
 
-    // Its closing, 0 where it is free.
-    #[tactic(auto, unfolding(chained_theory::specs::Layout::closing_at))]
-    pub(crate) fn closing(self) -> u32
-        ensures { result ≡ closing_of_record self.entry }
+    // Its key, whose closing is 0 where the record is free.
+    #[tactic(auto, unfolding(chained_theory::specs::Layout::closing_at, chained_theory::specs::Layout::place_at))]
+    pub(crate) fn key(self) -> Key
+        ensures closing { result.closing.0 ≡ record_closing self.entry }
+        ensures place { result.place.0 ≡ record_place self.entry }
     {
-        read4(&self.store.memory, self.start() + 4)
+        let at = self.start();
+        Key {
+            closing: Closing(read4(&self.store.memory, at + 4)),
+            place: Place(read4(&self.store.memory, at + 8)),
+        }
     }
 
-    // Whether it is the key's.
-    #[tactic(auto, unfolding(chained_theory::specs::Layout::place_at))]
     pub(crate) fn has(self, key: Key) -> bool
         ensures { result ≡ record_has self.entry key.closing.0 key.place.0 }
     {
-        self.closing() == key.closing.0
-            && read4(&self.store.memory, self.start() + 8) == key.place.0
+        self.key() == key
     }
 
     // The bytes behind its key.
     pub(crate) fn bytes(self) -> &'a [u8]
-        ensures is { result.now ≡ bytes_of_record self.entry }
+        ensures is { result.now ≡ record_bytes self.entry }
         ensures len { length result.now ≡ width_of self.entry }
     {
         let from = self.start() + 12;

@@ -1,13 +1,11 @@
 -- A closing filled place by place.
-use Rattle.std.proofs.Common.{◌≡◌, ℕ, ◌+◌, ◌-◌, ◌<◌, ◌≤◌, Bool, true, false, cond, not, ◌&&◌, eqb, ltb, List, is_some, Some, None, refl, ap, ◌∙◌, inl, inr, arith}
-use Rattle.std.proofs.lemmas.Bool.{cases_eq, cond-false, and_parts, eqb-true, ltb-true, ltb-false}
-use Rattle.refusal.specs.declared.cases.Refusal.TheVariants.{KeyOutside, WrongWidth, Full}
-use Rattle.store.specs.Meaning.{Meaning, in_span}
-use Rattle.store.specs.Counts.{held}
+use Rattle.std.proofs.Common.{◌≡◌, ℕ, ◌+◌, ◌-◌, ◌≤◌, cond, List, is_some, None, refl, ap, ◌∙◌, inl, inr, arith}
+use Rattle.std.proofs.lemmas.Bool.{cases_eq, cond-false}
+use Rattle.store.specs.Meaning.{Meaning}
 use Rattle.store.specs.Calls.{SameLimits, Put, Cleared}
 use Rattle.store.proofs.Rooms.{cleared_none}
 use Rattle.store.proofs.Tallies.{tally_none}
-use Rattle.client.specs.Fill.{fill_refusal, Filled}
+use Rattle.client.specs.Fill.{Filled}
 
 pub limits_join : (m k n : Meaning) → SameLimits m k → SameLimits k n → SameLimits m n
 limits_join m k n a b = record { width = b.width ∙ a.width; first = b.first ∙ a.first; last = b.last ∙ a.last; bound = b.bound ∙ a.bound }
@@ -42,16 +40,3 @@ filled_cleared m k n c i r w f = record {
   others = λ d p ne. f.others d p ne ∙ w.others d p ne;
   room = omega (arith, f.room, cleared_none m k c w, w.room);
 }
-
--- no row of the table holds
-none_of : (a b d : Bool) → cond (not a) (Some KeyOutside) (cond (not b) (Some WrongWidth) (cond d (Some Full) None)) ≡ None → (a ≡ true) × (b ≡ true) × (d ≡ false)
-none_of true true false e = (refl, refl, refl)
-none_of true true true e = let z : ◌≡◌ {A = ℕ} 0 1 = cc in let q : ⊥ = omega arith in absurd q
-none_of true false d e = let z : ◌≡◌ {A = ℕ} 0 1 = cc in let q : ⊥ = omega arith in absurd q
-none_of false b d e = let z : ◌≡◌ {A = ℕ} 0 1 = cc in let q : ⊥ = omega arith in absurd q
-
-pub fill_opened : (m : Meaning) (c n w : ℕ) → fill_refusal m c n w ≡ None → (in_span m c ≡ true) × (n < m.bound) × (w ≡ m.width) × (n ≤ m.room + held m c)
-fill_opened m c n w e =
-    let x = none_of (in_span m c && ltb n m.bound) (eqb w m.width) (ltb (m.room + held m c) n) e in
-    let y = and_parts (in_span m c) (ltb n m.bound) x.0 in
-    (y.0, ltb-true n m.bound y.1, eqb-true w m.width x.1, ltb-false (m.room + held m c) n x.2)

@@ -9,7 +9,6 @@ ghost use Rattle.std.specs.Prelude.{◌≡◌, ℕ, ◌+◌, ◌^◌, ◌<◌, �
 ghost use Rattle.std.specs.Option.{unwrap_or};
 ghost use Rattle.refusal.specs.Tables.{Answers};
 ghost use Rattle.store.specs.Meaning.{inside, in_span};
-ghost use Rattle.store.specs.Counts.{missing};
 ghost use Rattle.refusal.specs.declared.cases.Refusal.{Refusal as RefusalSaid};
 ghost use Rattle.store.specs.Calls.{put_refusal, Put, Cleared, Refused, clear_refusal};
 ghost use Rattle.client.specs.Fill.{fill_refusal, Filled};
@@ -20,8 +19,8 @@ use numbering::{Closing, Key, Place};
 use refusal::cases::Refusal;
 use store::NodeStore;
 
-// Puts one record at each place from 1 to n of a closing in which nothing is written. No put is refused, as the room is
-// enough for what is missing.
+// Puts one record at each place from 1 to n of a closing in which nothing is written. The room is enough for n records, so
+// that no put is refused.
 fn put_each<S: NodeStore>(store: &mut S, closing: Closing, n: u32, bytes: &[u8])
     requires within { in_span (S.meaning store.old) closing.0 ≡ true }
     requires below { n < (S.meaning store.old).bound }

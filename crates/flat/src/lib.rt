@@ -12,9 +12,8 @@ ghost use Rattle.memory.specs.Part.{patch};
 ghost use Rattle.store.specs.Meaning.{in_span, inside};
 ghost use Rattle.store.specs.Counts.{held as held_in};
 ghost use Rattle.store.specs.Calls.{Empty};
-ghost use Rattle.flat_theory.specs.Layout.{slot_at};
 ghost use Rattle.flat.specs.Sizes.{bytes_of, refusal_of, start_of};
-ghost use Rattle.flat.specs.Meaning.{flat_meaning, IsEmpty};
+ghost use Rattle.flat.specs.Meaning.{flat_meaning, slot_in, IsEmpty};
 ghost use Rattle.flat.specs.Sounds.{flat_sound};
 
 pub mod types;
@@ -26,6 +25,7 @@ use store::limits::{Extent, Limits};
 use types::Flat;
 
 // The extent of a store with these limits, where it fits in so many bytes.
+#[tactic(auto, using(flat_theory::proofs::Finds::flat_small))]
 fn fitting(limits: Limits, memory: usize) -> Result<Extent, Refusal>
     ensures { Answers result (refusal_of limits memory) (λ extent. extent.limits ≡ limits) }
 {
@@ -109,6 +109,7 @@ impl Flat {
     }
 
     // Where the slot of a key starts.
+    #[tactic(auto, using(crate::proofs::Rules::places), unfolding(flat_theory::specs::Layout::slot_of))]
     fn slot(&self, key: Key) -> usize
         requires { inside (flat_meaning self.now) key.closing.0 key.place.0 ≡ true }
         ensures is { result ≡ start_of self.now.extent.limits key.closing.0 key.place.0 }
@@ -122,7 +123,7 @@ impl Flat {
     // Whether the slot at `at` is written.
     fn is_written(&self, at: usize) -> bool
         requires { at < vec_len self.now.memory }
-        ensures { result ≡ is_some (slot_at self.now.memory.items self.now.extent.limits.width at) }
+        ensures { result ≡ is_some (slot_in self.now at) }
     {
         let mark = self.memory[at];
         mark == 1
@@ -131,8 +132,8 @@ impl Flat {
     // The room once the slot at `at` is written.
     fn room_after(&self, at: usize) -> u64
         requires within { at < vec_len self.now.memory }
-        requires some { slot_at self.now.memory.items self.now.extent.limits.width at ≡ None → 1 ≤ self.now.room }
-        ensures { result + (if is_some (slot_at self.now.memory.items self.now.extent.limits.width at) then 0 else 1) ≡ self.now.room }
+        requires some { slot_in self.now at ≡ None → 1 ≤ self.now.room }
+        ensures { result + (if is_some (slot_in self.now at) then 0 else 1) ≡ self.now.room }
     {
         if self.is_written(at) {
             self.room
@@ -174,12 +175,12 @@ impl NodeStore for Flat {
     fn get(&mut self, key: Key, into: &mut [u8]) -> Result<bool, Refusal> {
         self.extent.limits.admit(key, into.len())?;
         let at = self.slot(key);
-        if !self.is_written(at) {
-            return Ok(false);
+        let found = self.is_written(at);
+        if found {
+            let end = at + 1 + into.len();
+            into.copy_from_slice(&self.memory[at + 1..end]);
         }
-        let end = at + 1 + into.len();
-        into.copy_from_slice(&self.memory[at + 1..end]);
-        Ok(true)
+        Ok(found)
     }
 
     fn held(&self, closing: Closing) -> Result<u32, Refusal> {

@@ -4,7 +4,7 @@ use Rattle.chained_theory.proofs.Walks.{seek_here, seek_more}
 use Rattle.chained.specs.declared.types.Chained.{Chained}
 use Rattle.chained.specs.declared.records.Record.{Record}
 use Rattle.chained.specs.Meaning.{sought}
-use Rattle.chained.specs.Records.{IsRecord, link, has}
+use Rattle.chained.specs.Records.{IsRecord, link, record_has}
 use Rattle.chained.proofs.types.Chained.seek.Goals as goal
 
 link_is : (o : Option Record) (s : Chained) (i : ℕ) → IsRecord o s i → link o ≡ i
@@ -22,7 +22,7 @@ reached s o r left c p e of rest = record {
   rest = subst (λ x. seek_from (vec_items s.memory) s.extent.limits.width left (link x) c p ≡ sought s c p) e rest;
 }
 
-key_of : (s : Chained) (r : Record) (c p : ℕ) → r.store.now ≡ s → has_key (vec_items s.memory) s.extent.limits.width r.number c p ≡ has r c p
+key_of : (s : Chained) (r : Record) (c p : ℕ) → r.store.now ≡ s → has_key (vec_items s.memory) s.extent.limits.width r.number c p ≡ record_has r c p
 key_of s r c p e = ap (λ (z : Chained). has_key (vec_items z.memory) z.extent.limits.width r.number c p) (sym e)
 
 pub returns-then-has : goal.returns-then-has
