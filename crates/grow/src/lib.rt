@@ -19,7 +19,7 @@ use amount::Amount;
 use client::{fetch, keep};
 use digest::Digest;
 use node::types::Node;
-use node::{inner, padding, read_node, write_node};
+use node::{inner, node_text, padding, read_node};
 use numbering::{Closing, Key, Leaf, Place};
 use store::NodeStore;
 use tree::leaf_count;
@@ -31,11 +31,7 @@ pub fn put_node<A: Amount, N: NodeStore>(nodes: &mut N, key: Key, node: &Node<A>
     ensures refused { (e : RefusalSaid) → put_refusal (N.meaning nodes.old) key.closing.0 key.place.0 (32 + A.kind.width) ≡ Some e
         → N.meaning nodes.new ≡ N.meaning nodes.old }
 {
-    let mut record = [0u8; 112];
-    match write_node(node, &mut record) {
-        Ok(n) => keep(nodes, key, &record[..n]),
-        Err(_) => unreachable(),
-    }
+    keep(nodes, key, node_text(node).as_slice());
 }
 
 // The node at a place, where there is one.
@@ -50,10 +46,7 @@ fn get_node<A: Amount, N: NodeStore>(nodes: &mut N, key: Key) -> Option<Node<A>>
     if !fetch(nodes, key, part) {
         return None;
     }
-    match read_node(part) {
-        Ok(node) => Some(node),
-        Err(_) => None,
-    }
+    read_node(part).ok()
 }
 
 // Puts at a place the node over those of its two children.

@@ -104,6 +104,16 @@ pub fn inner<A: Amount, D: Digest>(
     })
 }
 
+// A node's bytes, as a text of their own.
+pub fn node_text<A: Amount>(node: &Node<A>) -> Text
+    ensures len { length result ≡ 32 + A.kind.width }
+    ensures said { result ≡ node_bytes A.kind (node_of A.meaning node.now) }
+{
+    let mut text = Text::empty();
+    push_node(&mut text, node);
+    text
+}
+
 // Writes a node's bytes to the front of the buffer, and answers how many they are.
 pub fn write_node<A: Amount>(node: &Node<A>, out: &mut [u8]) -> Result<usize, Refusal>
     ensures answers { Answers result

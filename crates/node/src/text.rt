@@ -21,6 +21,15 @@ impl Model for Text {
 }
 
 impl Text {
+    pub(crate) fn empty() -> Text
+        ensures { result ≡ [] }
+    {
+        Text {
+            bytes: [0; 225],
+            len: 0,
+        }
+    }
+
     // A text of one byte.
     pub(crate) fn of_byte(b: u8) -> Text
         ensures { result ≡ b ∷ [] }

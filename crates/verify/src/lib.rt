@@ -28,7 +28,7 @@ use digest::Digest;
 use file::Fields;
 use file::types::{Field, Found};
 use node::types::{Line, Node};
-use node::{inner, leaf, read_node, write_node};
+use node::{inner, leaf, node_text, read_node};
 use numbering::{Closing, Place};
 use octets::{read_be, same_bytes};
 use refusal::cases::Refusal;
@@ -180,16 +180,11 @@ fn climb<A: Amount, D: Digest>(
     Ok(walker.own)
 }
 
-// Whether two nodes have the same bytes.
+// Whether two nodes have the same bytes: an amount has no equality but that of its bytes.
 fn same_node<A: Amount>(a: &Node<A>, b: &Node<A>) -> bool
     ensures { result ≡ same (node_bytes A.kind (node_of A.meaning a.now)) (node_bytes A.kind (node_of A.meaning b.now)) }
 {
-    let mut one = [0u8; 112];
-    let mut two = [0u8; 112];
-    match (write_node(a, &mut one), write_node(b, &mut two)) {
-        (Ok(m), Ok(n)) => same_bytes(&one[0..m], &two[0..n]),
-        _ => unreachable(),
-    }
+    same_bytes(node_text(a).as_slice(), node_text(b).as_slice())
 }
 
 // Length, first seven bytes and leaf number of a file; answers the leaf number.
