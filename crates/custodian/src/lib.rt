@@ -362,7 +362,7 @@ impl<A: Amount, D: Digest, N: NodeStore, L: NodeStore> Ledger<A, D, N, L> {
         of
     }
 
-    // Writes the sheet of a closing that stands, while this ledger is open.
+    // Writes the sheet of a closing that stands, while this ledger is open: the custodian's own call, in the other state.
     pub fn sheet(&mut self, closing: Closing, out: &mut [u8]) -> Result<usize, Refusal>
         ensures digest { self.new.of.digest ≡ self.old.of.digest }
         ensures same { SameStores N.meaning L.meaning self.old.of self.new.of }
@@ -374,7 +374,7 @@ impl<A: Amount, D: Digest, N: NodeStore, L: NodeStore> Ledger<A, D, N, L> {
         self.of.sheet(closing, out)
     }
 
-    // Withdraws a closing that stands, while this ledger is open.
+    // Withdraws a closing that stands, while this ledger is open: the custodian's own call, in the other state.
     pub fn withdraw(&mut self, closing: Closing) -> Result<(), Refusal>
         ensures digest { self.new.of.digest ≡ self.old.of.digest }
         ensures refused { OnErr result (SameStores N.meaning L.meaning self.old.of self.new.of) }

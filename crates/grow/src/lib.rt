@@ -49,7 +49,8 @@ fn get_node<A: Amount, N: NodeStore>(nodes: &mut N, key: Key) -> Option<Node<A>>
     read_node(part).ok()
 }
 
-// Puts at a place the node over those of its two children.
+// Puts at a place the node over those of its two children. Digest, store and closing stay parameters here and below: a struct
+// of them would borrow the store, and each clause would have to say what it points to now.
 fn raise<A: Amount, D: Digest, N: NodeStore>(
     digest: &D,
     nodes: &mut N,
@@ -146,6 +147,7 @@ pub fn grow<A: Amount, D: Digest, N: NodeStore>(
         return;
     }
     pad::<A, D, N>(digest, nodes, closing, depth, lines);
+    // an inclusive range ends in two ways, each of which wants the last step's proof
     for height in 1..depth + 1 {
         raise_level::<A, D, N>(digest, nodes, closing, depth, height);
     }

@@ -28,7 +28,8 @@ use sheet::head;
 use store::NodeStore;
 use tree::leaf_count;
 
-// Puts a part behind what is written already.
+// Puts a part behind what is written already. The buffer and a place in it stay two parameters here and below, since parts of the
+// buffer are lent to a store in between.
 fn put_part(out: &mut [u8], at: usize, part: &[u8])
     requires { at + length part.now ≤ length out.old }
     ensures long { length out.new ≡ length out.old }
