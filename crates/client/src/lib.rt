@@ -95,7 +95,7 @@ pub fn suits<S: NodeStore>(store: &S, width: usize, closing: Closing, depth: u32
     limits.width == width && limits.spans(closing) && holds_places(limits.bound, depth)
 }
 
-// Fills the buffer with the record under a key; false, and the buffer stays, where there is none for it.
+// Fills the buffer with the record under a key; false, and the buffer stays, where there is none for it: a flag as in `get`.
 pub fn fetch<S: NodeStore>(store: &mut S, key: Key, into: &mut [u8]) -> bool
     ensures same { S.meaning store.new ≡ S.meaning store.old }
     ensures found { result ≡ is_some (fetched (S.meaning store.old) key.closing.0 key.place.0 (length into.old)) }

@@ -25,7 +25,7 @@ pub static H0: [u32; 8] = [
     0x6a09e667, 0xbb67ae85, 0x3c6ef372, 0xa54ff53a, 0x510e527f, 0x9b05688c, 0x1f83d9ab, 0x5be0cd19,
 ];
 
-// The round constants: the cube roots of the primes up to 311.
+// The round constants: the cube roots of the primes up to 311. A function for each table, since each has a rule of its own.
 #[tactic(auto, using(crate::proofs::Rule::cube_roots), unfolding(crate::specs::Tables::round_constants))]
 pub fn round_constants() -> [u32; 64]
     ensures table { result ≡ round_constants }

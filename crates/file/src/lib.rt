@@ -25,7 +25,7 @@ pub struct Fields<'a> {
     ghost whole: { (1 ≤ count → (4 ≤ count) × (length file.now ≡ file_length width (count - 4))) },
 }
 
-// Where field i begins, and its length.
+// Where field i begins, and its length. Fields are counted here, since there are as many steps as the depth is.
 fn span(width: usize, i: usize) -> (usize, usize)
     requires { (width ≤ 80) × (i < 24) }
     ensures offset { result.0 ≡ offset_at width i }

@@ -38,7 +38,8 @@ fn fitting(limits: Limits, memory: usize) -> Result<Extent, Refusal>
     }
 }
 
-// Whether a store with these limits fits in so many bytes.
+// Whether a store with these limits fits in so many bytes. Measuring, making and giving back are the chained store's too: what is
+// the same in both is `Extent`, and the rest is the layout.
 pub fn measure(limits: Limits, memory: usize) -> Result<(), Refusal>
     ensures { Answers result (refusal_of limits memory) (λ _. Unit {0}) }
 {

@@ -34,7 +34,7 @@ pub fn put_node<A: Amount, N: NodeStore>(nodes: &mut N, key: Key, node: &Node<A>
     keep(nodes, key, node_text(node).as_slice());
 }
 
-// The node at a place, where there is one.
+// The node at a place, where there is one. The width is the kind's, so the array has the greatest.
 fn get_node<A: Amount, N: NodeStore>(nodes: &mut N, key: Key) -> Option<Node<A>>
     ensures same { N.meaning nodes.new ≡ N.meaning nodes.old }
     ensures found { (x : NodeSaid) → Whole A.kind x

@@ -4,7 +4,8 @@ ghost use Rattle.std.specs.Prelude.{◌≡◌, ℕ, ◌+◌, ◌≤◌, List, []
 use amount::Amount;
 use std::marker::Model;
 
-// The longest text has 225 bytes: an inner one at the greatest width. There is no heap, so they lie in an array.
+// The longest text has 225 bytes: an inner one at the greatest width. There is no heap, so they lie in an array; and no `ArrayVec`,
+// since an amount is written straight into the bytes behind what there is.
 #[derive(Drop)]
 pub struct Text {
     bytes: [u8; 225],

@@ -114,7 +114,7 @@ pub fn write_sheet<A: Amount, D: Digest, N: NodeStore>(
 }
 
 // Puts the customer number, the salt and the balance of a leaf behind what is written already: its text without the first
-// five bytes.
+// five bytes. The width is the kind's, so the array has the greatest.
 fn put_line<A: Amount, L: NodeStore>(leaves: &mut L, key: Key, out: &mut [u8], at: usize)
     requires { at + (32 + A.kind.width) ≤ length out.old }
     ensures same { L.meaning leaves.new ≡ L.meaning leaves.old }

@@ -13,7 +13,7 @@ use cases::Refusal;
 use std::fmt;
 
 impl Refusal {
-    // Its number, 1 to 23.
+    // Its number, 1 to 23, as scripts and pages show it; no call takes one.
     pub fn number(self) -> u8
         ensures { result ≡ number_of self }
     {

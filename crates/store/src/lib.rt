@@ -26,8 +26,9 @@ pub trait NodeStore {
             (λ _. Put (meaning self.old) (meaning self.new) key.closing.0 key.place.0 bytes.now) }
         ensures refused { Refused result (meaning self.new ≡ meaning self.old) };
 
-    // Fills the buffer with the record under a key, or answers false where there is none. What the store means stays,
-    // though what it keeps nearby may change.
+    // Fills the buffer with the record under a key, or answers false where there is none: a flag, and no `Option` of the
+    // record, since there is no heap and the record is the buffer's. What the store means stays, though what it keeps nearby
+    // may change.
     fn get(&mut self, key: Key, into: &mut [u8]) -> Result<bool, Refusal>
         ensures same { meaning self.new ≡ meaning self.old }
         ensures answers { Answers result
