@@ -1,7 +1,8 @@
 //! The calls of a script, read from the words of a line.
 use crate::Stop;
-use crate::words::{bytes, number, number32, numbers};
+use crate::words::{bytes, closing, key, number, number32, numbers};
 use digest::kinds::AnyDigest;
+use numbering::{Closing, Key, Leaf};
 use std::alloc::Global;
 use store::limits::Limits;
 
@@ -55,19 +56,19 @@ pub(crate) enum Call {
     Join(Vec<u64>, Vec<u64>),
     Measure(Shape),
     Store(Shape),
-    Put(u32, u32, Vec<u8>),
-    Get(u32, u32, u32),
-    Held(u32),
-    Clear(u32),
+    Put(Key, Vec<u8>),
+    Get(Key, u32),
+    Held(Closing),
+    Clear(Closing),
     Room,
     Custodian(Shape, Shape),
-    Open(u32, u32),
+    Open(Closing, u32),
     Enter(Vec<u8>, Vec<u8>, Vec<u64>),
     Close,
     Abandon,
-    Sheet(u32, u32),
-    Issue(u32, u32, u32),
-    Withdraw(u32),
+    Sheet(Closing, u32),
+    Issue(Closing, Leaf, u32),
+    Withdraw(Closing),
     Check(Vec<u8>, Vec<u8>),
     Fields(u32, Vec<u8>),
     Auditor(Shape, Shape),
@@ -130,9 +131,9 @@ fn two_words(heap: Global, name: &str, word: &str) -> Result<Call, Stop> {
         "present" => bytes(heap, word).map(Call::Present),
         "measure" => read_shape(heap, word).map(Call::Measure),
         "store" => made_shape(heap, word).map(Call::Store),
-        "held" => number32(word).map(Call::Held),
-        "clear" => number32(word).map(Call::Clear),
-        "withdraw" => number32(word).map(Call::Withdraw),
+        "held" => closing(word).map(Call::Held),
+        "clear" => closing(word).map(Call::Clear),
+        "withdraw" => closing(word).map(Call::Withdraw),
         "texts" => number32(word).map(Call::Texts),
         _ => Err(Stop::Unreadable),
     }
@@ -144,8 +145,8 @@ fn three_words(heap: Global, name: &str, one: &str, two: &str) -> Result<Call, S
         "join" => Call::Join(numbers(heap, one)?, numbers(heap, two)?),
         "check" => Call::Check(bytes(heap, one)?, bytes(heap, two)?),
         "fields" => Call::Fields(number32(one)?, bytes(heap, two)?),
-        "open" => Call::Open(number32(one)?, number32(two)?),
-        "sheet" => Call::Sheet(number32(one)?, number32(two)?),
+        "open" => Call::Open(closing(one)?, number32(two)?),
+        "sheet" => Call::Sheet(closing(one)?, number32(two)?),
         "custodian" => Call::Custodian(made_shape(heap, one)?, made_shape(heap, two)?),
         "auditor" => Call::Auditor(made_shape(heap, one)?, made_shape(heap, two)?),
         _ => return Err(Stop::Unreadable),
@@ -154,9 +155,9 @@ fn three_words(heap: Global, name: &str, one: &str, two: &str) -> Result<Call, S
 
 fn four_words(heap: Global, name: &str, one: &str, two: &str, three: &str) -> Result<Call, Stop> {
     Ok(match name {
-        "put" => Call::Put(number32(one)?, number32(two)?, bytes(heap, three)?),
-        "get" => Call::Get(number32(one)?, number32(two)?, number32(three)?),
-        "issue" => Call::Issue(number32(one)?, number32(two)?, number32(three)?),
+        "put" => Call::Put(key(one, two)?, bytes(heap, three)?),
+        "get" => Call::Get(key(one, two)?, number32(three)?),
+        "issue" => Call::Issue(closing(one)?, Leaf(number32(two)?), number32(three)?),
         "enter" => Call::Enter(bytes(heap, one)?, bytes(heap, two)?, numbers(heap, three)?),
         _ => return Err(Stop::Unreadable),
     })

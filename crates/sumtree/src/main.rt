@@ -169,8 +169,8 @@ impl Session {
             return Err(Stop::NotNow);
         };
         match call {
-            Call::Put(closing, place, record) => stores::put(heap, store, closing, place, &record),
-            Call::Get(closing, place, len) => stores::get(heap, store, closing, place, len),
+            Call::Put(key, record) => stores::put(heap, store, key, &record),
+            Call::Get(key, len) => stores::get(heap, store, key, len),
             Call::Held(closing) => stores::held(heap, store, closing),
             Call::Clear(closing) => stores::clear(heap, store, closing),
             Call::Room => stores::room(heap, store),

@@ -5,7 +5,7 @@ use crate::{Stop, said};
 use anystore::types::AnyStore;
 use chained::types::Chained;
 use flat::types::Flat;
-use numbering::{Closing, Key, Place};
+use numbering::{Closing, Key};
 use std::alloc::{AllocError, Global};
 use store::NodeStore;
 
@@ -27,45 +27,31 @@ pub(crate) fn made(heap: Global, shape: Shape) -> Result<AnyStore, AllocError> {
     })
 }
 
-fn key(closing: u32, place: u32) -> Key {
-    Key {
-        closing: Closing(closing),
-        place: Place(place),
-    }
-}
-
 pub(crate) fn put(
     heap: Global,
     store: &mut AnyStore,
-    closing: u32,
-    place: u32,
+    key: Key,
     record: &[u8],
 ) -> Result<String, Stop> {
-    store.put(key(closing, place), record)?;
+    store.put(key, record)?;
     said(heap, "put")
 }
 
-pub(crate) fn get(
-    heap: Global,
-    store: &mut AnyStore,
-    closing: u32,
-    place: u32,
-    len: u32,
-) -> Result<String, Stop> {
+pub(crate) fn get(heap: Global, store: &mut AnyStore, key: Key, len: u32) -> Result<String, Stop> {
     let mut buffer = vec![in heap; 0xee; len as usize]?;
-    let found = store.get(key(closing, place), &mut buffer)?;
+    let found = store.get(key, &mut buffer)?;
     let word = if found { "found" } else { "absent" };
     let bytes = Shown(&buffer);
     Ok(format!(in heap; "{word} {bytes}")?)
 }
 
-pub(crate) fn held(heap: Global, store: &AnyStore, closing: u32) -> Result<String, Stop> {
-    let n = store.held(Closing(closing))?;
+pub(crate) fn held(heap: Global, store: &AnyStore, closing: Closing) -> Result<String, Stop> {
+    let n = store.held(closing)?;
     Ok(format!(in heap; "held {n}")?)
 }
 
-pub(crate) fn clear(heap: Global, store: &mut AnyStore, closing: u32) -> Result<String, Stop> {
-    store.clear(Closing(closing))?;
+pub(crate) fn clear(heap: Global, store: &mut AnyStore, closing: Closing) -> Result<String, Stop> {
+    store.clear(closing)?;
     said(heap, "cleared")
 }
 

@@ -2,6 +2,7 @@
 use crate::Stop;
 use amount::Amount;
 use hexadecimal::Hex;
+use numbering::{Closing, Key, Place};
 use std::alloc::Global;
 use std::fmt;
 
@@ -15,6 +16,17 @@ pub(crate) fn number(word: &str) -> Result<u64, Stop> {
 
 pub(crate) fn number32(word: &str) -> Result<u32, Stop> {
     u32::try_from(number(word)?).map_err(|_| Stop::Unreadable)
+}
+
+pub(crate) fn closing(word: &str) -> Result<Closing, Stop> {
+    Ok(Closing(number32(word)?))
+}
+
+pub(crate) fn key(closing_word: &str, place: &str) -> Result<Key, Stop> {
+    Ok(Key {
+        closing: closing(closing_word)?,
+        place: Place(number32(place)?),
+    })
 }
 
 fn hex_digit(b: u8) -> Result<u8, Stop> {
