@@ -1,5 +1,5 @@
 -- The fields of a file of known depth, as parts of the file itself.
-use Rattle.std.specs.Prelude.{◌≡◌, ℕ, zero, suc, ◌+◌, ◌*◌, ◌≤◌, cond, ◌&&◌, List, take, drop, ◌==◌, nat_le}
+use Rattle.std.specs.Prelude.{◌≡◌, ℕ, zero, suc, ◌+◌, ◌*◌, ◌≤◌, cond, ◌&&◌, List, take, drop, codes, ◌==◌, nat_le}
 use Rattle.file.specs.declared.types.Field.{Field}
 use Rattle.file.specs.declared.types.Field.TheVariants.{Head, Customer, Salt, Balance, Step}
 use Rattle.file.specs.declared.types.Found.{Found}
@@ -42,6 +42,14 @@ bytes_of (Customer p) = p.now
 bytes_of (Salt p) = p.now
 bytes_of (Balance p) = p.now
 bytes_of (Step p) = p.now
+
+-- what a field is called
+abbrev pub name_of : Field → List ℕ
+name_of (Head p) = codes "head"
+name_of (Customer p) = codes "customer"
+name_of (Salt p) = codes "salt"
+name_of (Balance p) = codes "balance"
+name_of (Step p) = codes "step"
 
 -- it is field i of the file, and says where it stands
 pub record IsField (width : ℕ) (file : List ℕ) (i : ℕ) (f : Found) : Type 0 where

@@ -1,5 +1,5 @@
 -- Numbers and their bytes determine each other.
-use Rattle.std.proofs.Common.{◌≡◌, ℕ, zero, suc, ◌+◌, ◌*◌, ◌/◌, ◌%◌, ◌^◌, ◌<◌, List, [], ◌∷◌, length, get_or, sym, refl, ap, ◌∙◌, mod-eq_of_lt, mul_assoc, div-add-mod', div-one, arith}
+use Rattle.std.proofs.Common.{◌≡◌, ℕ, zero, suc, ◌+◌, ◌*◌, ◌/◌, ◌%◌, ◌^◌, ◌<◌, List, [], ◌∷◌, length, get_or, sym, refl, ap, ◌∙◌, mod-eq_of_lt, mul_assoc, div-add-mod', arith}
 use native.Mathlib.Nat.{pow-succ', mod-one, mul-add-div_right, one-le-pow}
 use lib.Arith.{mod-mul, digits_lt, digits_div}
 use Rattle.octets.specs.BigEndian.{be, value}
@@ -59,7 +59,3 @@ pub be_bytes : (n x i : ℕ) → get_or (be n x) i 0 < 256
 be_bytes zero x i = omega arith
 be_bytes (suc n) x zero = omega arith
 be_bytes (suc n) x (suc i) = be_bytes n x i
-
--- the form in which the numbers' own method says it
-pub be_8 : (x : ℕ) → (x / 72057594037927936 % 256) ∷ (x / 281474976710656 % 256) ∷ (x / 1099511627776 % 256) ∷ (x / 4294967296 % 256) ∷ (x / 16777216 % 256) ∷ (x / 65536 % 256) ∷ (x / 256 % 256) ∷ (x % 256) ∷ [] ≡ be 8 x
-be_8 x = simp div-one

@@ -13,6 +13,7 @@ ghost use Rattle.amount.specs.Rows.{Allowed, rows, small, plus, numbers, bytes};
 ghost use Rattle.amount.proofs.RowLaws.{rows_laws, single_allowed, purse_allowed, row_writable, row_parts};
 
 use amount::Amount;
+use octets::{BigEndian, read_be};
 use refusal::cases::Refusal;
 
 // No number of a row reaches it.
@@ -76,8 +77,8 @@ fn number_in(bytes: &[u8], i: usize) -> u64
     requires { 8 * i + 8 ≤ length bytes.now }
     ensures { result ≡ value (take 8 (drop (8 * i) bytes.now)) }
 {
-    match bytes[8 * i..].first_chunk::<8>() {
-        Some(part) => u64::from_be_bytes(*part),
+    match read_be(&bytes[8 * i..]) {
+        Some(number) => number,
         None => unreachable(),
     }
 }
@@ -100,7 +101,7 @@ fn put_numbers(out: &mut [u8], numbers: &[u64])
     ensures { out.new ≡ written (bytes numbers.now) out.old }
 {
     for (i, number) in numbers.iter().enumerate() {
-        out[8 * i..8 * i + 8].copy_from_slice(&number.to_be_bytes());
+        out[8 * i..8 * i + 8].copy_from_slice(&number.be_bytes());
     }
 }
 

@@ -5,97 +5,72 @@
 //! prints every step, so that a person can follow it.
 #![tactic(auto)]
 
-use amount::Amount;
-use anyhow::anyhow;
+mod ledger;
+mod stop;
+
+use anyhow::{anyhow, ensure};
 use digest::kinds::Sha256;
 use file::Fields;
-use file::types::{Field, Found};
+use file::types::Found;
 use flat::types::Flat;
 use hexadecimal::Hex;
+use ledger::Ledger;
 use node::types::{Line, Node};
 use node::{inner, leaf, padding, read_node, write_node};
-use numbering::{Closing, Key, Leaf, Place};
+use numbering::{Key, Leaf, Place};
 use octets::BigEndian;
 use refusal::cases::Refusal;
+use row::Single;
 use sheet::head;
 use sheet::types::Sheet;
-use row::Single;
-use std::alloc::Global;
+use std::alloc::{AllocError, Global};
+use std::iter::{Zip, successors};
+use std::ops::Range;
 use std::{fs, io};
+use stop::Stop;
 use store::NodeStore;
 use store::limits::Limits;
-use tree::tree_node;
+use tree::{leaf_count, tree_node};
 use verify::check;
 
-#[derive(Drop)]
-struct Ledger {
-    closing: Closing,
-    depth: u32,
-    lines: Vec<Line<Single>>,
+// A node's bytes: a digest and eight bytes of cents.
+const WIDTH: usize = 40;
+
+fn record_of(node: &Node<Single>) -> Result<[u8; WIDTH], Refusal> {
+    let mut record = [0; WIDTH];
+    write_node(node, &mut record)?;
+    Ok(record)
 }
 
-// A salt of sixteen characters.
-fn salt_of(word: &str) -> Option<[u8; 16]> {
-    let text = word.as_bytes();
-    if text.len() != 16 {
-        return None;
-    }
-    let mut salt = [0u8; 16];
-    salt.copy_from_slice(text);
-    Some(salt)
-}
-
-fn line_of(text: &str) -> Option<Line<Single>> {
-    let mut words = text.split(' ');
-    let customer = words.next()?.parse::<u128>().ok()?;
-    let salt = salt_of(words.next()?)?;
-    let cents = words.next()?.parse::<u64>().ok()?;
-    let balance = <Single as Amount>::of_numbers(&[cents])?;
-    Some(Line {
-        customer: customer.to_be_bytes(),
-        salt,
-        balance,
-    })
-}
-
-fn head_of(text: &str) -> Option<(u32, u32)> {
-    let mut words = text.split(' ');
-    if words.next()? != "closing" {
-        return None;
-    }
-    let closing = words.next()?.parse::<u32>().ok()?;
-    if words.next()? != "depth" {
-        return None;
-    }
-    let depth = words.next()?.parse::<u32>().ok()?;
-    Some((closing, depth))
-}
-
-fn read_ledger(heap: Global, text: &str) -> anyhow::Result<Ledger> {
-    let mut rows = text.lines();
-    let Some((closing, depth)) = head_of(rows.next().unwrap_or("")) else {
-        return Err(anyhow!("the ledger begins with its closing and its depth"));
+// A flat store with room for the nodes of one closing.
+fn node_store(heap: Global, ledger: &Ledger) -> anyhow::Result<Flat> {
+    ensure!(ledger.depth <= 20, "the depth is over 20");
+    let bound = 2 << ledger.depth;
+    let limits = Limits {
+        width: WIDTH,
+        first: ledger.closing.0,
+        last: ledger.closing.0,
+        bound,
     };
-    let mut lines = Vec::new(heap);
-    for row in rows {
-        let Some(line) = line_of(row) else {
-            return Err(anyhow!(
-                "a line is a customer number, a salt of sixteen characters and cents"
-            ));
-        };
-        lines.push(line)?;
-    }
-    Ok(Ledger {
-        closing: Closing(closing),
-        depth,
-        lines,
-    })
+    let memory = vec![in heap; 0; bound as usize * (WIDTH + 1)]?;
+    ensure!(
+        flat::measure(limits, memory.len()).is_ok(),
+        "no store has these limits"
+    );
+    Ok(Flat::new(memory, limits))
+}
+
+// The nodes of a height from left to right: the number of each, and its place. Node n of a height with m nodes stands at
+// place m + n.
+fn level(depth: u32, height: u32) -> Zip<Range<u32>, Range<u32>> {
+    let len = leaf_count(depth.saturating_sub(height));
+    (0..len).zip(len..len.saturating_mul(2))
 }
 
 fn show_line(rt: &HostRuntime, n: usize, line: &Line<Single>) -> io::Result<()> {
     let customer = Hex(&line.customer);
     let salt = Hex(&line.salt);
-    let cents = line.balance.cents;
+    let [cents] = line.balance.cents;
     println!(rt; "line {n}: customer {customer}, salt {salt}, {cents} cents")
 }
 
@@ -107,132 +82,8 @@ fn show_node(
     node: &Node<Single>,
 ) -> io::Result<()> {
     let digest = Hex(&node.digest);
-    let cents = node.amount.cents;
+    let [cents] = node.amount.cents;
     println!(rt; "  {name} {n}, place {place}: {digest}, {cents} cents")
-}
-
-// A flat store with room for the nodes of one closing: a digest and eight bytes of cents each.
-fn node_store(heap: Global, closing: Closing, depth: u32) -> anyhow::Result<Flat> {
-    if depth > 20 {
-        return Err(anyhow!("the depth is over 20"));
-    }
-    let bound = 2 << depth;
-    let limits = Limits {
-        width: 40,
-        first: closing.0,
-        last: closing.0,
-        bound,
-    };
-    let memory = vec![in heap; 0; bound as usize * 41]?;
-    if flat::measure(limits, memory.len()).is_err() {
-        return Err(anyhow!("no store has these limits"));
-    }
-    Ok(Flat::new(memory, limits))
-}
-
-// Keeps a node under its closing and its place.
-fn keep(
-    store: &mut Flat,
-    closing: Closing,
-    place: u32,
-    node: &Node<Single>,
-) -> Result<(), Refusal> {
-    let mut record = [0u8; 40];
-    let _ = write_node(node, &mut record)?;
-    store.put(
-        Key {
-            closing,
-            place: Place(place),
-        },
-        &record,
-    )
-}
-
-// The node kept there.
-fn fetch(store: &mut Flat, closing: Closing, place: u32) -> Result<Node<Single>, Refusal> {
-    let mut record = [0u8; 40];
-    if !store.get(
-        Key {
-            closing,
-            place: Place(place),
-        },
-        &mut record,
-    )? {
-        return Err(Refusal::NotStanding);
-    }
-    read_node(&record)
-}
-
-fn leaf_node(ledger: &Ledger, n: u32) -> Node<Single> {
-    let i = n as usize;
-    if i < ledger.lines.len() {
-        leaf(&Sha256, ledger.closing, &ledger.lines[i])
-    } else {
-        padding(&Sha256, ledger.closing, Leaf(n))
-    }
-}
-
-// Keeps the leaves of the tree; leaf n stands at place 2^depth + n.
-fn keep_leaves(rt: &HostRuntime, store: &mut Flat, ledger: &Ledger) -> anyhow::Result<()> {
-    println!(rt; "height 0:")?;
-    for n in 0..level_len(ledger.depth, 0) {
-        let node = leaf_node(ledger, n);
-        let name = if (n as usize) < ledger.lines.len() {
-            "leaf"
-        } else {
-            "padding"
-        };
-        let place = level_len(ledger.depth, 0) | n;
-        show_node(rt, name, n, place, &node)?;
-        let kept = keep(store, ledger.closing, place, &node);
-        answered(rt, kept)?;
-    }
-    Ok(())
-}
-
-// The node over the two below a place, which are fetched from the store.
-fn inner_node(store: &mut Flat, closing: Closing, place: u32) -> Result<Node<Single>, Refusal> {
-    let left = fetch(store, closing, place.saturating_mul(2))?;
-    let right = fetch(store, closing, place.saturating_mul(2) | 1)?;
-    inner(&Sha256, &left, &right)
-}
-
-// Keeps the nodes of a height, each made from the two below it.
-fn keep_level(
-    rt: &HostRuntime,
-    store: &mut Flat,
-    ledger: &Ledger,
-    height: u32,
-) -> anyhow::Result<()> {
-    println!(rt; "height {height}:")?;
-    for n in 0..level_len(ledger.depth, height) {
-        let place = level_len(ledger.depth, height) | n;
-        let node = answered(rt, inner_node(store, ledger.closing, place))?;
-        show_node(rt, "node", n, place, &node)?;
-        let kept = keep(store, ledger.closing, place, &node);
-        answered(rt, kept)?;
-    }
-    Ok(())
-}
-
-// How many nodes a height has.
-fn level_len(depth: u32, height: u32) -> u32 {
-    if height <= depth && depth <= 20 {
-        1 << (depth - height)
-    } else {
-        0
-    }
-}
-
-// The answer, or the end of the tour with the refusal in words.
-fn answered<T>(rt: &HostRuntime, answer: Result<T, Refusal>) -> anyhow::Result<T> {
-    match answer {
-        Ok(x) => Ok(x),
-        Err(r) => {
-            println!(rt; "{r}")?;
-            Err(anyhow!("a call was refused"))
-        }
-    }
 }
 
 fn show_lines(rt: &HostRuntime, ledger: &Ledger) -> io::Result<()> {
@@ -245,137 +96,173 @@ fn show_lines(rt: &HostRuntime, ledger: &Ledger) -> io::Result<()> {
     println!(rt)
 }
 
-fn build_tree(rt: &HostRuntime, store: &mut Flat, ledger: &Ledger) -> anyhow::Result<()> {
-    println!(rt;
-        "The tree, from the leaves up. Each node is the SHA-256 of its text, and the sum below it,"
-    )?;
-    println!(rt; "and is kept in a store under the closing and its place.")?;
-    keep_leaves(rt, store, ledger)?;
-    for height in 1..ledger.depth.min(20) + 1 {
-        keep_level(rt, store, ledger, height)?;
+// A ledger, and the store that its tree is kept in.
+#[derive(Drop)]
+struct Tour<'a> {
+    rt: &'a HostRuntime,
+    ledger: Ledger,
+    store: Flat,
+}
+
+impl Tour<'_> {
+    fn key(&self, place: u32) -> Key {
+        Key {
+            closing: self.ledger.closing,
+            place: Place(place),
+        }
     }
-    let closing = ledger.closing;
-    let held = answered(rt, store.held(closing))?;
-    let room = store.room();
-    println!(rt; "The store holds {held} nodes of this closing, and has room for {room} more.")?;
-    println!(rt)?;
-    Ok(())
-}
 
-fn show_notice(rt: &HostRuntime, store: &mut Flat, ledger: &Ledger) -> anyhow::Result<()> {
-    let root = answered(rt, fetch(store, ledger.closing, 1))?;
-    let again = answered(
-        rt,
-        tree_node(
-            &Sha256,
-            ledger.closing,
-            ledger.depth,
-            &ledger.lines,
-            ledger.depth,
-            0,
-        ),
-    )?;
-    if root.digest != again.digest {
-        return Err(anyhow!("the store has another root than the ledger"));
+    fn keep(&mut self, place: u32, node: &Node<Single>) -> Result<(), Refusal> {
+        let key = self.key(place);
+        self.store.put(key, &record_of(node)?)
     }
-    let digest = Hex(&root.digest);
-    let cents = root.amount.cents;
-    println!(rt; "For the notice, from the store and once more from the lines alone:")?;
-    println!(rt; "  root  {digest}")?;
-    println!(rt; "  total {cents} cents")?;
-    Ok(())
-}
 
-fn written_sheet(rt: &HostRuntime, store: &mut Flat, ledger: &Ledger) -> anyhow::Result<Vec<u8>> {
-    let root = answered(rt, fetch(store, ledger.closing, 1))?;
-    let sheet = Sheet {
-        closing: ledger.closing,
-        depth: u8::try_from(ledger.depth)?,
-        root,
-    };
-    let mut bytes = vec![in rt.alloc(); 0; 47]?;
-    let written = sheet::write(&Sha256, &sheet, &mut bytes);
-    let n = answered(rt, written)?;
-    let shown = Hex(&bytes);
-    println!(rt; "The sheet, {n} bytes:")?;
-    println!(rt; "  {shown}")?;
-    Ok(bytes)
-}
-
-// The front of a line's file: head, leaf number, customer number, salt and balance.
-fn file_front(
-    rt: &HostRuntime,
-    ledger: &Ledger,
-    n: u32,
-    line: &Line<Single>,
-) -> anyhow::Result<Vec<u8>> {
-    let mut file = Vec::new(rt.alloc());
-    file.extend_from_slice(&head::<Single, Sha256>(
-        &Sha256,
-        ledger.closing,
-        u8::try_from(ledger.depth)?,
-    ))?;
-    file.extend_from_slice(&n.be_bytes())?;
-    file.extend_from_slice(&line.customer)?;
-    file.extend_from_slice(&line.salt)?;
-    file.extend_from_slice(&line.balance.cents.be_bytes())?;
-    Ok(file)
-}
-
-// Puts the node beside a place behind the file.
-fn push_step(
-    rt: &HostRuntime,
-    store: &mut Flat,
-    closing: Closing,
-    place: u32,
-    file: &mut Vec<u8>,
-) -> anyhow::Result<()> {
-    let node = answered(rt, fetch(store, closing, place ^ 1))?;
-    let mut record = [0u8; 40];
-    let written = write_node(&node, &mut record);
-    answered(rt, written)?;
-    file.extend_from_slice(&record)?;
-    Ok(())
-}
-
-// The file of line n: the nodes beside its path come from the store, from the leaf up.
-fn line_file(
-    rt: &HostRuntime,
-    store: &mut Flat,
-    ledger: &Ledger,
-    n: u32,
-    line: &Line<Single>,
-) -> anyhow::Result<Vec<u8>> {
-    let mut file = file_front(rt, ledger, n, line)?;
-    let mut place = level_len(ledger.depth, 0) | n;
-    for _ in 0..ledger.depth {
-        push_step(rt, store, ledger.closing, place, &mut file)?;
-        place /= 2;
+    // What is kept at a place.
+    fn record(&mut self, place: u32) -> Result<[u8; WIDTH], Refusal> {
+        let key = self.key(place);
+        let mut record = [0; WIDTH];
+        if !self.store.get(key, &mut record)? {
+            return Err(Refusal::NotStanding);
+        }
+        Ok(record)
     }
-    Ok(file)
+
+    fn node(&mut self, place: u32) -> Result<Node<Single>, Refusal> {
+        read_node(&self.record(place)?)
+    }
+
+    fn leaf_node(&self, n: u32) -> (&'static str, Node<Single>) {
+        let closing = self.ledger.closing;
+        match self.ledger.lines.get(n as usize) {
+            Some(line) => ("leaf", leaf(&Sha256, closing, line)),
+            None => ("padding", padding(&Sha256, closing, Leaf(n))),
+        }
+    }
+
+    // The node over the two below a place, which are fetched from the store.
+    fn inner_node(&mut self, place: u32) -> Result<Node<Single>, Refusal> {
+        let left = self.node(place.saturating_mul(2))?;
+        let right = self.node(place.saturating_mul(2) | 1)?;
+        inner(&Sha256, &left, &right)
+    }
+
+    // Makes, shows and keeps the nodes of a height.
+    fn keep_level(&mut self, height: u32) -> Result<(), Stop> {
+        println!(self.rt; "height {height}:")?;
+        for (n, place) in level(self.ledger.depth, height) {
+            let (name, node) = if height == 0 {
+                self.leaf_node(n)
+            } else {
+                ("node", self.inner_node(place)?)
+            };
+            show_node(self.rt, name, n, place, &node)?;
+            self.keep(place, &node)?;
+        }
+        Ok(())
+    }
+
+    fn build_tree(&mut self) -> Result<(), Stop> {
+        println!(self.rt;
+            "The tree, from the leaves up. Each node is the SHA-256 of its text, and the sum below it,"
+        )?;
+        println!(self.rt; "and is kept in a store under the closing and its place.")?;
+        for height in 0..=self.ledger.depth {
+            self.keep_level(height)?;
+        }
+        let held = self.store.held(self.ledger.closing)?;
+        let room = self.store.room();
+        println!(self.rt;
+            "The store holds {held} nodes of this closing, and has room for {room} more."
+        )?;
+        println!(self.rt)?;
+        Ok(())
+    }
+
+    fn show_notice(&mut self) -> Result<(), Stop> {
+        let root = self.node(1)?;
+        let ledger = &self.ledger;
+        let depth = ledger.depth;
+        let again = tree_node(&Sha256, ledger.closing, depth, &ledger.lines, depth, 0)?;
+        if root.digest != again.digest {
+            return Err(anyhow!("the store has another root than the ledger").into());
+        }
+        let digest = Hex(&root.digest);
+        let [cents] = root.amount.cents;
+        println!(self.rt; "For the notice, from the store and once more from the lines alone:")?;
+        println!(self.rt; "  root  {digest}")?;
+        println!(self.rt; "  total {cents} cents")?;
+        Ok(())
+    }
+
+    // The depth as a sheet and a file say it.
+    fn depth_byte(&self) -> anyhow::Result<u8> {
+        Ok(u8::try_from(self.ledger.depth)?)
+    }
+
+    fn written_sheet(&mut self) -> Result<[u8; 47], Stop> {
+        let sheet = Sheet {
+            closing: self.ledger.closing,
+            depth: self.depth_byte()?,
+            root: self.node(1)?,
+        };
+        let mut bytes = [0; 47];
+        let n = sheet::write(&Sha256, &sheet, &mut bytes)?;
+        let shown = Hex(&bytes);
+        println!(self.rt; "The sheet, {n} bytes:")?;
+        println!(self.rt; "  {shown}")?;
+        println!(self.rt)?;
+        Ok(bytes)
+    }
+
+    // The front of a line's file: head, leaf number, customer number, salt and balance.
+    fn file_front(&self, n: u32, line: &Line<Single>) -> anyhow::Result<Vec<u8>> {
+        let [cents] = line.balance.cents;
+        let head = head::<Single, Sha256>(&Sha256, self.ledger.closing, self.depth_byte()?);
+        let mut file = Vec::new(self.rt.alloc());
+        file.extend_from_slice(&head)?;
+        file.extend_from_slice(&n.be_bytes())?;
+        file.extend_from_slice(&line.customer)?;
+        file.extend_from_slice(&line.salt)?;
+        file.extend_from_slice(&cents.be_bytes())?;
+        Ok(file)
+    }
+
+    // The file of line n: the nodes beside its path come from the store, from the leaf up.
+    fn line_file(&mut self, n: u32) -> Result<Vec<u8>, Stop> {
+        let Some(line) = self.ledger.lines.get(n as usize) else {
+            return Err(anyhow!("the ledger has no line {n}").into());
+        };
+        let mut file = self.file_front(n, line)?;
+        let depth = self.ledger.depth;
+        let leaf = leaf_count(depth) | n;
+        for place in successors(Some(leaf), |place| Some(*place / 2)).take(depth as usize) {
+            file.extend_from_slice(&self.record(place ^ 1)?)?;
+        }
+        Ok(file)
+    }
+
+    // The file of line 1, from the store to the customer's check.
+    fn show_file(&mut self, sheet: &[u8]) -> Result<(), Stop> {
+        let file = self.line_file(1)?;
+        show_fields(self.rt, self.ledger.depth, &file)?;
+        println!(self.rt; "The customer's check of it under the sheet:")?;
+        show_check(self.rt, "as issued", sheet, &file)?;
+        damage(self.rt, sheet, &file)?;
+        Ok(())
+    }
 }
 
 fn show_field(rt: &HostRuntime, found: Found) -> io::Result<()> {
+    let name = found.field.name();
     let offset = found.offset;
-    let (name, part) = match found.field {
-        Field::Head(part) => ("head", part),
-        Field::Customer(part) => ("customer", part),
-        Field::Salt(part) => ("salt", part),
-        Field::Balance(part) => ("balance", part),
-        Field::Step(part) => ("step", part),
-    };
-    let shown = Hex(part);
-    println!(rt; "  {name} at {offset}: {shown}")
+    let part = Hex(found.field.part());
+    println!(rt; "  {name} at {offset}: {part}")
 }
 
-fn show_fields(rt: &HostRuntime, depth: u32, file: &[u8]) -> anyhow::Result<()> {
+fn show_fields(rt: &HostRuntime, depth: u32, file: &[u8]) -> io::Result<()> {
     let len = file.len();
     println!(rt; "The file of line 1, {len} bytes, by its fields:")?;
-    let mut fields = Fields::new::<Single>(file, depth);
-    for _ in 0..24 {
-        let Some(found) = fields.next() else {
-            break;
-        };
+    for found in Fields::new::<Single>(file, depth) {
         show_field(rt, found)?;
     }
     Ok(())
@@ -384,32 +271,25 @@ fn show_fields(rt: &HostRuntime, depth: u32, file: &[u8]) -> anyhow::Result<()> 
 // Checks a file under the sheet, as a customer would, and says what came of it.
 fn show_check(rt: &HostRuntime, what: &str, sheet: &[u8], file: &[u8]) -> io::Result<()> {
     match check::<Single, Sha256>(&Sha256, sheet, file) {
-        Ok(place) => {
-            let place = place.0;
-            println!(rt; "  {what}: passes, at place {place}")
-        }
-        Err(r) => println!(rt; "  {what}: {r}"),
+        Ok(Place(place)) => println!(rt; "  {what}: passes, at place {place}"),
+        Err(refusal) => println!(rt; "  {what}: {refusal}"),
     }
 }
 
 // A copy with one byte changed.
-fn with_byte(heap: Global, file: &[u8], at: usize) -> anyhow::Result<Vec<u8>> {
+fn with_byte(heap: Global, file: &[u8], at: usize) -> Result<Vec<u8>, AllocError> {
     let mut copy = Vec::from_slice(heap, file)?;
-    if let Some(b) = copy.get_mut(at) {
-        *b = b.wrapping_add(1);
+    if let Some(byte) = copy.get_mut(at) {
+        *byte = byte.wrapping_add(1);
     }
     Ok(copy)
 }
 
 // A copy with its first two steps swapped.
 fn with_steps_swapped(heap: Global, file: &[u8]) -> anyhow::Result<Vec<u8>> {
-    if file.len() < 131 {
-        return Err(anyhow!("the file has fewer than two steps"));
-    }
-    let mut copy = Vec::from_slice(heap, &file[0..51])?;
-    copy.extend_from_slice(&file[91..131])?;
-    copy.extend_from_slice(&file[51..91])?;
-    copy.extend_from_slice(&file[131..file.len()])?;
+    let mut copy = Vec::from_slice(heap, file)?;
+    ensure!(copy.len() >= 131, "the file has fewer than two steps");
+    copy[51..131].rotate_left(WIDTH);
     Ok(copy)
 }
 
@@ -421,40 +301,29 @@ fn damage(rt: &HostRuntime, sheet: &[u8], file: &[u8]) -> anyhow::Result<()> {
     show_check(rt, "another salt", sheet, &resalted)?;
     let swapped = with_steps_swapped(heap, file)?;
     show_check(rt, "two steps swapped", sheet, &swapped)?;
-    let cut = Vec::from_slice(heap, &file[0..file.len() / 2])?;
-    show_check(rt, "cut in half", sheet, &cut)?;
+    show_check(rt, "cut in half", sheet, &file[..file.len() / 2])?;
     Ok(())
 }
 
-// One line's file, from the store to the customer's check.
-fn show_file(
-    rt: &HostRuntime,
-    store: &mut Flat,
-    ledger: &Ledger,
-    sheet: &[u8],
-) -> anyhow::Result<()> {
-    let Some(line) = ledger.lines.get(1) else {
-        return Err(anyhow!("the ledger has no line 1"));
-    };
-    let file = line_file(rt, store, ledger, 1, line)?;
-    show_fields(rt, ledger.depth, &file)?;
-    println!(rt; "The customer's check of it under the sheet:")?;
-    show_check(rt, "as issued", sheet, &file)?;
-    damage(rt, sheet, &file)
-}
-
-fn tour(rt: &HostRuntime) -> anyhow::Result<()> {
+fn run(rt: &HostRuntime) -> Result<(), Stop> {
     let text = fs::read_to_string(rt, "ledger.txt")?;
-    let ledger = read_ledger(rt.alloc(), &text)?;
+    let ledger = Ledger::read(rt.alloc(), &text)?;
     show_lines(rt, &ledger)?;
-    let mut store = node_store(rt.alloc(), ledger.closing, ledger.depth)?;
-    build_tree(rt, &mut store, &ledger)?;
-    show_notice(rt, &mut store, &ledger)?;
-    let sheet = written_sheet(rt, &mut store, &ledger)?;
-    println!(rt)?;
-    show_file(rt, &mut store, &ledger, &sheet)
+    let store = node_store(rt.alloc(), &ledger)?;
+    let mut tour = Tour { rt, ledger, store };
+    tour.build_tree()?;
+    tour.show_notice()?;
+    let sheet = tour.written_sheet()?;
+    tour.show_file(&sheet)
 }
 
 fn main(rt: HostRuntime) -> anyhow::Result<()> {
-    tour(&rt)
+    match run(&rt) {
+        Ok(()) => Ok(()),
+        Err(Stop::Failed(error)) => Err(error),
+        Err(Stop::Refused(refusal)) => {
+            println!(rt; "{refusal}")?;
+            Err(anyhow!("a call was refused"))
+        }
+    }
 }
