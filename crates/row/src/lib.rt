@@ -83,7 +83,7 @@ fn number_in(bytes: &[u8], i: usize) -> u64
     }
 }
 
-// The numbers that these bytes write.
+// The numbers that these bytes write. By index: what `array::from_fn` promises of its calls did not give the list of them.
 fn numbers_in<const N: usize>(bytes: &[u8]) -> [u64; N]
     requires { length bytes.now ≡ 8 * N }
     ensures { result ≡ numbers N bytes.now }
