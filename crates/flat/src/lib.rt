@@ -57,7 +57,8 @@ fn write_slot(memory: &mut [u8], at: usize, bytes: &[u8])
     memory[at + 1..end].copy_from_slice(bytes);
 }
 
-// Sets the marks of n slots to 0, from the one at `base` on.
+// Sets the marks of n slots to 0, from the one at `base` on. By index: what lies behind an adapter of `iter_mut` is not known after
+// the loop, so the proof did not close.
 fn clear_marks(memory: &mut [u8], base: usize, step: usize, n: usize)
     requires { (base + n * step ≤ length memory.old) × (1 ≤ step) }
     ensures marks { (k : ℕ) → k < n → slice_index memory.new (base + k * step) ≡ 0 }
