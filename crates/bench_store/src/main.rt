@@ -34,8 +34,8 @@ fn places(bound: u32) -> Cycle<Range<u32>> {
 fn put_many(store: &mut Flat, bound: u32, n: u32, text: &[u8; 56]) -> u64 {
     let mut taken: u64 = 0;
     for (i, place) in places(bound).take(n as usize).enumerate() {
-        let record = &text[i % 16..][..WIDTH];
-        if store.put(key(place), record).is_ok() {
+        let at = i % 16;
+        if store.put(key(place), &text[at..at + WIDTH]).is_ok() {
             taken = taken.wrapping_add(1);
         }
     }
@@ -44,15 +44,14 @@ fn put_many(store: &mut Flat, bound: u32, n: u32, text: &[u8; 56]) -> u64 {
 
 // Gets n records in the same order, and answers the sum of their first and last bytes.
 fn get_many(store: &mut Flat, bound: u32, n: u32, record: &mut [u8; WIDTH]) -> u64 {
-    let mut sum: u64 = 0;
-    for place in places(bound).take(n as usize) {
-        if let Ok(true) = store.get(key(place), record) {
-            sum = sum
+    places(bound).take(n as usize).fold(0, |sum: u64, place| {
+        match store.get(key(place), record) {
+            Ok(true) => sum
                 .wrapping_add(record[0] as u64)
-                .wrapping_add(record[WIDTH - 1] as u64);
+                .wrapping_add(record[WIDTH - 1] as u64),
+            _ => sum,
         }
-    }
-    sum
+    })
 }
 
 fn byte_sum(bytes: &[u8]) -> u64 {

@@ -1,6 +1,7 @@
 -- The worked examples as rows of one table: each row is a test on the definitions, and holds.
 -- The kind is single, the digest the rehearsal one.
-use Rattle.std.specs.Prelude.{ℕ, ◌-◌, ◌^◌, Bool, true, false, not, ◌&&◌, List, [], ◌∷◌, ◌++◌, length, replicate, is_some, Some, None, Option, ◌==◌, slice_set}
+use Rattle.std.specs.Prelude.{ℕ, ◌-◌, ◌^◌, Bool, false, not, ◌&&◌, List, [], ◌∷◌, ◌++◌, length, replicate, is_some, Some, None, Option, ◌==◌, slice_set}
+use Rattle.std.specs.List.{list_all}
 use Rattle.octets.specs.Tests.{same}
 use Rattle.refusal.specs.Tables.{is_refusal}
 use Rattle.amount.specs.Kinds.{join_refusal}
@@ -12,7 +13,7 @@ use Rattle.sheet.specs.Layout.{Sheet, sheet_bytes}
 use Rattle.file.specs.Layout.{file_bytes, file_length}
 use Rattle.verify.specs.Checks.{shape_refusal, check_refusal, leaf_place}
 use Rattle.store.specs.Meaning.{Meaning}
-use Rattle.audit.specs.Audits.{Texts, State, laid, Call, present, tally, Answer, counted_at, counted_before, tallied, handed, none_shown, laid_anew, refused, answer, next}
+use Rattle.audit.specs.Audits.{Texts, State, laid, Call, present, tally, Answer, counted_at, counted_before, tallied, refused, answer, next}
 
 -- the largest amount
 abbrev largest : List ℕ
@@ -58,39 +59,19 @@ presented (file ∷ files) = next single rehearsal first_sheet (notebook 40 2) (
 -- tests on answers: counted, or counted before, at a place; a tally; a refusal by its number
 abbrev counts_at : ℕ → Answer → Bool
 counts_at p (counted_at q) = p == q
-counts_at p (counted_before q) = false
-counts_at p (tallied amount n) = false
-counts_at p (handed n m buffer) = false
-counts_at p (none_shown buffer) = false
-counts_at p laid_anew = false
-counts_at p (refused r) = false
+counts_at p other = false
 
 abbrev knows_at : ℕ → Answer → Bool
-knows_at p (counted_at q) = false
 knows_at p (counted_before q) = p == q
-knows_at p (tallied amount n) = false
-knows_at p (handed n m buffer) = false
-knows_at p (none_shown buffer) = false
-knows_at p laid_anew = false
-knows_at p (refused r) = false
+knows_at p other = false
 
 abbrev tallies : ℕ → ℕ → Answer → Bool
-tallies amount n (counted_at q) = false
-tallies amount n (counted_before q) = false
 tallies amount n (tallied x m) = same x (amount ∷ []) && n == m
-tallies amount n (handed l m buffer) = false
-tallies amount n (none_shown buffer) = false
-tallies amount n laid_anew = false
-tallies amount n (refused r) = false
+tallies amount n other = false
 
 abbrev refuses : ℕ → Answer → Bool
-refuses number (counted_at q) = false
-refuses number (counted_before q) = false
-refuses number (tallied amount n) = false
-refuses number (handed n m buffer) = false
-refuses number (none_shown buffer) = false
-refuses number laid_anew = false
 refuses number (refused r) = is_refusal (Some r) number 0
+refuses number other = false
 
 -- two texts of 45 bytes each that differ and have one digest
 abbrev collide : Option Texts → Bool
@@ -146,5 +127,4 @@ audit_rows =
 
 -- every row holds
 abbrev pub hold : List Bool → Bool
-hold [] = true
-hold (row ∷ rows) = row && hold rows
+hold rows = list_all (λ row. row) rows

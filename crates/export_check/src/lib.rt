@@ -23,6 +23,7 @@ pub extern "C" fn wuyllamo_check(sheet: &[u8], file: &[u8]) -> u32
 {
     match check::<Single, Sha256>(&Sha256, sheet, file) {
         Ok(place) => place.0,
+        // one number for C: no leaf has place 0
         Err(_) => 0,
     }
 }

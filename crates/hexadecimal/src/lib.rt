@@ -11,7 +11,6 @@ pub struct Hex<'a>(pub &'a [u8]);
 impl fmt::Display for Hex<'_> {
     fn fmt<W: fmt::Write>(&self, f: &mut fmt::Formatter<W>) -> fmt::Result {
         for b in self.0 {
-            let b = *b;
             write!(f, "{b:02x}")?;
         }
         Ok(())

@@ -178,12 +178,16 @@ impl Tour<'_> {
         Ok(())
     }
 
-    fn show_notice(&mut self) -> Result<(), Stop> {
-        let root = self.node(1)?;
+    // The root, from the lines alone.
+    fn root_again(&self) -> Result<Node<Single>, Refusal> {
         let ledger = &self.ledger;
         let depth = ledger.depth;
-        let again = tree_node(&Sha256, ledger.closing, depth, &ledger.lines, depth, 0)?;
-        if root.digest != again.digest {
+        tree_node(&Sha256, ledger.closing, depth, &ledger.lines, depth, 0)
+    }
+
+    fn show_notice(&mut self) -> Result<(), Stop> {
+        let root = self.node(1)?;
+        if root.digest != self.root_again()?.digest {
             return Err(anyhow!("the store has another root than the ledger").into());
         }
         let digest = Hex(&root.digest);

@@ -1,7 +1,6 @@
-use Rattle.std.proofs.Common.{refl}
 use Rattle.digest.specs.Digests.{rehearsed}
 use Rattle.examples.proofs.count.Goals as goal
 
-pub returns : goal.returns
+pub returns-clause-hold : goal.returns-clause-hold
 unfolding rehearsed
-returns c = record { rows = refl; hold = tt }
+returns-clause-hold c = tt
