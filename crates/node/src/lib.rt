@@ -26,10 +26,7 @@ use types::{Line, Node};
 fn digest_of<D: Digest>(digest: &D, text: &Text) -> [u8; 32]
     ensures { result ≡ (D.hash digest.now).of text.now }
 {
-    match digest.digest(text.as_slice()) {
-        Ok(d) => d,
-        Err(_) => unreachable(),
-    }
+    digest.digest(text.as_slice()).unwrap()
 }
 
 // The text of a line.
@@ -127,6 +124,7 @@ pub fn write_node<A: Amount>(node: &Node<A>, out: &mut [u8]) -> Result<usize, Re
         return Err(Refusal::BufferTooShort);
     }
     out[0..32].copy_from_slice(&node.digest);
+    // a match, as the proof reads in its arm what was written
     match node.amount.write(&mut out[32..end]) {
         Ok(_) => Ok(end),
         Err(_) => unreachable(),

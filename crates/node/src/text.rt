@@ -56,6 +56,7 @@ impl Text {
         ensures { self.new ≡ self.old ++ A.kind.bytes (A.meaning amount) }
     {
         let end = self.len + A::width();
+        // a match, as the proof reads in its arm what was written
         match amount.write(&mut self.bytes[self.len..end]) {
             Ok(_) => {}
             Err(_) => unreachable(),

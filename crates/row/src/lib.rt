@@ -60,7 +60,7 @@ fn all_at_most(a: &[u64], b: &[u64]) -> bool
     a.iter().zip(b).all(|(x, y)| *x <= *y)
 }
 
-// The sums, number by number.
+// The sums, number by number. By index here and below: over `array::from_fn` the goals on the captured numbers did not close.
 fn sums<const N: usize>(a: &[u64; N], b: &[u64; N]) -> [u64; N]
     requires { (list_all small a.now ≡ true) × (list_all small b.now ≡ true) }
     ensures { result ≡ plus a.now b.now }
@@ -77,13 +77,10 @@ fn number_in(bytes: &[u8], i: usize) -> u64
     requires { 8 * i + 8 ≤ length bytes.now }
     ensures { result ≡ value (take 8 (drop (8 * i) bytes.now)) }
 {
-    match read_be(&bytes[8 * i..]) {
-        Some(number) => number,
-        None => unreachable(),
-    }
+    read_be(&bytes[8 * i..]).unwrap()
 }
 
-// The numbers that these bytes write. By index: what `array::from_fn` promises of its calls did not give the list of them.
+// The numbers that these bytes write.
 fn numbers_in<const N: usize>(bytes: &[u8]) -> [u64; N]
     requires { length bytes.now ≡ 8 * N }
     ensures { result ≡ numbers N bytes.now }

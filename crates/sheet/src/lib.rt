@@ -89,6 +89,7 @@ pub fn write<A: Amount, D: Digest>(
         return Err(Refusal::BufferTooShort);
     }
     out[0..7].copy_from_slice(&head::<A, D>(digest, sheet.closing, sheet.depth));
+    // a match, as the proof reads in its arm what was written
     match write_node(&sheet.root, &mut out[7..end]) {
         Ok(_) => Ok(end),
         Err(_) => unreachable(),

@@ -70,25 +70,28 @@ fn on_left(leaf: u32, j: u32) -> bool
     (leaf >> j) & 1 == 0
 }
 
-// The node over the path's node and the step beside it.
+// The node over the path's node at a height and the step beside it, each on its side.
 fn over<A: Amount, D: Digest>(
     digest: &D,
-    left: bool,
+    leaf: u32,
+    height: u32,
     own: &Node<A>,
     step: &Node<A>,
 ) -> Result<Node<A>, Refusal>
+    requires { height < 32 }
     ensures { Answers result
-        (join_refusal A.kind (A.meaning (if left then own.now else step.now).amount) (A.meaning (if left then step.now else own.now).amount))
-        (λ n. node_of A.meaning n ≡ inner_node A.kind (D.hash digest.now) (node_of A.meaning (if left then own.now else step.now)) (node_of A.meaning (if left then step.now else own.now))) }
+        (join_refusal A.kind (A.meaning (if leaf / 2 ^ height % 2 == 0 then own.now else step.now).amount) (A.meaning (if leaf / 2 ^ height % 2 == 0 then step.now else own.now).amount))
+        (λ n. node_of A.meaning n ≡ inner_node A.kind (D.hash digest.now) (node_of A.meaning (if leaf / 2 ^ height % 2 == 0 then own.now else step.now)) (node_of A.meaning (if leaf / 2 ^ height % 2 == 0 then step.now else own.now))) }
 {
-    if left {
+    if on_left(leaf, height) {
         inner(digest, own, step)
     } else {
         inner(digest, step, own)
     }
 }
 
-// Sixteen bytes by value; sixteen zeros for any other part.
+// Sixteen bytes by value. No other part comes, but that is known only where the clause of `walk` says which field it is; so zeros
+// stand for any other.
 fn sixteen(part: &[u8]) -> [u8; 16]
     ensures { length part.now ≡ 16 → result ≡ part.now }
 {
@@ -137,8 +140,7 @@ fn walk<A: Amount, D: Digest>(
             let Ok(step) = read_node(part) else {
                 return Err(Refusal::BadAmount(found.offset));
             };
-            let left = on_left(leaf_number, walker.height);
-            let Ok(own) = over(digest, left, &walker.own, &step) else {
+            let Ok(own) = over(digest, leaf_number, walker.height, &walker.own, &step) else {
                 return Err(Refusal::JoinUnwritable(found.offset));
             };
             Ok(Walker {
@@ -165,6 +167,7 @@ fn climb<A: Amount, D: Digest>(
     ensures { Answers result (joins_refusal A.kind (D.hash digest.now) closing.0 depth (file_of A.kind depth file.now))
         (λ n. node_of A.meaning n ≡ path_node A.kind (D.hash digest.now) closing.0 (file_of A.kind depth file.now) depth) }
 {
+    // zeros, till the fields that come first are gone through
     let mut walker = Walker {
         customer: [0; 16],
         salt: [0; 16],
