@@ -4,12 +4,12 @@ ghost use Rattle.memory.specs.Four.{be4, put4};
 ghost use Rattle.memory.specs.Part.{patch};
 ghost use Rattle.chained_theory.specs.Layout.{start_of};
 
-// The number of four bytes at `at`. Four indices, since a slice would have to be turned into an array, a case that may fail.
+// The number of four bytes at `at`.
 pub(crate) fn read4(memory: &[u8], at: usize) -> u32
     requires { at + 4 ≤ length memory.now }
     ensures { result ≡ be4 memory.now at }
 {
-    u32::from_be_bytes([memory[at], memory[at + 1], memory[at + 2], memory[at + 3]])
+    u32::from_be_bytes(*memory[at..].first_chunk().unwrap())
 }
 
 pub(crate) fn write4(memory: &mut [u8], at: usize, n: u32)

@@ -15,7 +15,7 @@ module _ {A D N L : Type 0} where
 
   abbrev pub HoldsOpen : Kind → (A → List ℕ) → (D → Hash) → (N → Meaning) → (L → Meaning) → Ledger A D N L → State → Type 0
   HoldsOpen k meaning hash nodes leaves l s =
-      KeepsOpen k (hash l.of.digest) (nodes l.of.nodes) (leaves l.of.leaves) l.of.roll l.closing.0 l.depth l.lines (meaning l.total) s
+      KeepsOpen k (hash l.of.digest) (nodes l.of.nodes) (leaves l.of.leaves) l.of.roll l.stand.closing.0 l.stand.depth l.stand.lines (meaning l.total) s
 
   -- both stores mean what they meant
   abbrev pub SameStores : (N → Meaning) → (L → Meaning) → Custodian A D N L → Custodian A D N L → Type 0

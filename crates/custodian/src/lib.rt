@@ -45,12 +45,10 @@ pub struct Custodian<A, D, N, L> {
     kind: PhantomData<A>,
 }
 
-// A custodian with a ledger open: its closing, its depth, how many lines it has, and their joint total.
+// A custodian with a ledger open: what will stand once it is closed, and the lines' joint total.
 pub struct Ledger<A, D, N, L> {
     of: Custodian<A, D, N, L>,
-    closing: Closing,
-    depth: u8,
-    lines: u32,
+    stand: Stand,
     total: A,
 }
 
@@ -182,9 +180,11 @@ impl<A: Amount, D: Digest, N: NodeStore, L: NodeStore> Custodian<A, D, N, L> {
         custodian.forget_both(closing);
         Ok(Ledger {
             of: custodian,
-            closing,
-            depth: depth as u8,
-            lines: 0,
+            stand: Stand {
+                closing,
+                depth: depth as u8,
+                lines: 0,
+            },
             total: A::zero(),
         })
     }
@@ -277,7 +277,7 @@ impl<A: Amount, D: Digest, N: NodeStore, L: NodeStore> Custodian<A, D, N, L> {
 impl<A: Amount, D: Digest, N: NodeStore, L: NodeStore> Ledger<A, D, N, L> {
     // Whether a line can be entered, by the table of refusals; answers the line and the joint total of all lines with it.
     fn admit_line(&self, customer: &[u8], salt: &[u8], balance: A) -> Result<(Line<A>, A), Refusal>
-        ensures low { OnOk result ((self.now.depth ≤ 20) × (self.now.lines < 2 ^ self.now.depth)) }
+        ensures low { OnOk result ((self.now.stand.depth ≤ 20) × (self.now.stand.lines < 2 ^ self.now.stand.depth)) }
         ensures table { (s : State) → HoldsOpen A.kind A.meaning D.hash N.meaning L.meaning self.now s
             → Answers result (enter_refusal A.kind (ledger_of s) customer.now salt.now (A.meaning balance))
             (λ x. (line_of A.meaning x.0 ≡ line_said customer.now salt.now (A.meaning balance))
@@ -286,7 +286,7 @@ impl<A: Amount, D: Digest, N: NodeStore, L: NodeStore> Ledger<A, D, N, L> {
         let (Ok(customer), Ok(salt)) = (customer.try_into(), salt.try_into()) else {
             return Err(Refusal::BadIdentity);
         };
-        if self.lines >= leaf_count(self.depth as u32) {
+        if self.stand.lines >= leaf_count(self.stand.depth as u32) {
             return Err(Refusal::LeavesTaken);
         }
         let total = self.total.join(balance)?;
@@ -309,13 +309,13 @@ impl<A: Amount, D: Digest, N: NodeStore, L: NodeStore> Ledger<A, D, N, L> {
             → HoldsOpen A.kind A.meaning D.hash N.meaning L.meaning self.new (next A.kind s (Enter customer.now salt.now (A.meaning balance))) }
     {
         let (line, total) = self.admit_line(customer, salt, balance)?;
-        let number = self.lines;
+        let number = self.stand.lines;
         let key = Key {
-            closing: self.closing,
-            place: Place(leaf_count(self.depth as u32) + number),
+            closing: self.stand.closing,
+            place: Place(leaf_count(self.stand.depth as u32) + number),
         };
         self.of.put_line(key, &line);
-        self.lines = number + 1;
+        self.stand.lines = number + 1;
         self.total = total;
         Ok(Leaf(number))
     }
@@ -325,22 +325,21 @@ impl<A: Amount, D: Digest, N: NodeStore, L: NodeStore> Ledger<A, D, N, L> {
         ensures digest { result.digest ≡ self.of.digest }
         ensures closed { (s : State) → HoldsOpen A.kind A.meaning D.hash N.meaning L.meaning self s
             → ((next A.kind s Close).ledger ≡ None) × Holds A.kind D.hash N.meaning L.meaning result (next A.kind s Close) }
-        ensures others { (s : State) → HoldsOpen A.kind A.meaning D.hash N.meaning L.meaning self s → (d p : ℕ) → (d ≢ self.closing.0) → (N.meaning result.nodes).find d p ≡ (N.meaning self.of.nodes).find d p }
+        ensures others { (s : State) → HoldsOpen A.kind A.meaning D.hash N.meaning L.meaning self s → (d p : ℕ) → (d ≢ self.stand.closing.0) → (N.meaning result.nodes).find d p ≡ (N.meaning self.of.nodes).find d p }
         ensures leaves { result.leaves ≡ self.of.leaves }
     {
         let Ledger {
             mut of,
-            closing,
-            depth,
-            lines,
+            stand,
             total: _,
         } = self;
-        grow::<A, D, N>(&of.digest, &mut of.nodes, closing, depth as u32, lines);
-        of.roll.add(Stand {
+        let Stand {
             closing,
             depth,
             lines,
-        });
+        } = stand;
+        grow::<A, D, N>(&of.digest, &mut of.nodes, closing, depth as u32, lines);
+        of.roll.add(stand);
         of
     }
 
@@ -348,17 +347,15 @@ impl<A: Amount, D: Digest, N: NodeStore, L: NodeStore> Ledger<A, D, N, L> {
     pub fn abandon(self) -> Custodian<A, D, N, L>
         ensures digest { result.digest ≡ self.of.digest }
         ensures abandoned { (s : State) → HoldsOpen A.kind A.meaning D.hash N.meaning L.meaning self s
-            → ((next A.kind s Abandon).ledger ≡ None) × ClearedBoth N.meaning L.meaning self.of result self.closing.0
+            → ((next A.kind s Abandon).ledger ≡ None) × ClearedBoth N.meaning L.meaning self.of result self.stand.closing.0
             × Holds A.kind D.hash N.meaning L.meaning result (next A.kind s Abandon) }
     {
         let Ledger {
             mut of,
-            closing,
-            depth: _,
-            lines: _,
+            stand,
             total: _,
         } = self;
-        of.forget_both(closing);
+        of.forget_both(stand.closing);
         of
     }
 

@@ -147,7 +147,7 @@ pub fn grow<A: Amount, D: Digest, N: NodeStore>(
         return;
     }
     pad::<A, D, N>(digest, nodes, closing, depth, lines);
-    // an inclusive range ends in two ways, each of which wants the last step's proof
+    // not `1..=depth`: that loop ends in two ways, and the last step would be proved twice
     for height in 1..depth + 1 {
         raise_level::<A, D, N>(digest, nodes, closing, depth, height);
     }

@@ -64,6 +64,7 @@ impl Text {
         self.len = end;
     }
 
+    // What it says.
     pub fn as_slice(&self) -> &[u8]
         ensures value { result.now ≡ self.now }
         ensures fits { length self.now ≤ 225 }

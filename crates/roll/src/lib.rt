@@ -53,9 +53,10 @@ impl Roll {
         }
     }
 
-    // How many closings stand.
+    // How many closings stand: at most eight.
     pub fn len(&self) -> usize
-        ensures { result ≡ length self.now }
+        ensures value { result ≡ length self.now }
+        ensures most { length self.now ≤ 8 }
     {
         self.stands.len()
     }

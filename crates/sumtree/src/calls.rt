@@ -107,10 +107,8 @@ fn read_shape(heap: Global, word: &str) -> Result<Shape, Stop> {
 // A store that is made: its memory has to fit 32 bits.
 fn made_shape(heap: Global, word: &str) -> Result<Shape, Stop> {
     let shape = read_shape(heap, word)?;
-    match u32::try_from(shape.memory) {
-        Ok(_) => Ok(shape),
-        Err(_) => Err(Stop::Unreadable),
-    }
+    u32::try_from(shape.memory).map_err(|_| Stop::Unreadable)?;
+    Ok(shape)
 }
 
 fn one_word(name: &str) -> Result<Call, Stop> {
@@ -163,8 +161,8 @@ fn four_words(heap: Global, name: &str, one: &str, two: &str, three: &str) -> Re
     })
 }
 
-// The call of a line, where it is one. The words are told by how many there are first: one match over all would take the
-// proof minutes.
+// The call of a line, where it is one. The words are told by how many there are first: with one match over all the proof did not
+// close in two minutes.
 pub(crate) fn read_call(heap: Global, line: &str) -> Result<Call, Stop> {
     let words: Vec<&str> = line.split(' ').collect(heap)?;
     match words.as_slice() {

@@ -75,7 +75,7 @@ pub(crate) fn bytes(heap: Global, word: &str) -> Result<Vec<u8>, Stop> {
     }
 }
 
-// ShownAmount joined by `+`, as an amount is written.
+// Numbers joined by `+`, as an amount is written.
 pub(crate) fn numbers(heap: Global, word: &str) -> Result<Vec<u64>, Stop> {
     word.split('+').map(|part| number(part)).try_collect(heap)
 }

@@ -7,13 +7,13 @@ use Rattle.custodian.proofs.Ledger.admit_line.Goals as goal
 
 pub returns-in_err-total-clause-table : goal.returns-in_err-total-clause-table
 returns-in_err-total-clause-table g c s open' =
-    let low = low_depth c.args.self.now.depth c.args.self.now.lines c.leaf_count.result c.leaf_count.ensures.leaves c.leaf_count.ensures.none c.if-self-leaf_count.false in
+    let low = low_depth c.args.self.now.stand.depth c.args.self.now.stand.lines c.leaf_count.result c.leaf_count.ensures.leaves c.leaf_count.ensures.none c.if-self-leaf_count.false in
     handed_on c.from_residual.result _ _ _ c.from_residual.ensures.1
     (joining_decides open' g.met.A.Amount.lawful c.args.customer.now c.args.salt.now (g.A.Amount.meaning c.args.balance) c.in-Ok-Ok.ensures.1.long c.in-Ok-Ok.ensures'.1.long low.1 ∙ c.in_err-total.ensures)
 
 pub returns-clause-table : goal.returns-clause-table
 returns-clause-table g c s open' =
-    let low = low_depth c.args.self.now.depth c.args.self.now.lines c.leaf_count.result c.leaf_count.ensures.leaves c.leaf_count.ensures.none c.if-self-leaf_count.false in
+    let low = low_depth c.args.self.now.stand.depth c.args.self.now.stand.lines c.leaf_count.result c.leaf_count.ensures.leaves c.leaf_count.ensures.none c.if-self-leaf_count.false in
     let customer = c.args.customer.now in
     let salt = c.args.salt.now in
     let balance = g.A.Amount.meaning c.args.balance in
