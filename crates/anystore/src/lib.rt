@@ -1,6 +1,7 @@
 //! A store that is flat or chained, chosen while a program runs, under the contract of every store.
 //!
-//! A third store is a third case of the enum, of its meaning and of each call here.
+//! A third store is a third case of the enum, of its meaning and of each call here. Each call matches on the store and hands
+//! on: the stores are chosen among these, so an enum says more than a `dyn`.
 #![tactic(auto)]
 
 ghost use Rattle.anystore.specs.Meaning.{any_meaning};

@@ -116,7 +116,7 @@ fn front_of(memory: &mut [u8], at: usize, number: u32, chain: usize, closing: u3
 }
 
 // Lays the chains out anew from the records alone, without those that are forgotten. One walk over the records, which
-// answers how many are free now.
+// answers how many are free now. It counts the records that are done, of which its invariant speaks, and not the one in hand.
 #[tactic(auto, using(crate::proofs::Rules::places))]
 fn relay(memory: &mut [u8], width: usize, count: u32, forgotten: Forgotten) -> u32
     requires narrow { (width ≤ 128) × (count ≤ 4194304) }

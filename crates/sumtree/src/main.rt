@@ -113,6 +113,7 @@ impl Session {
         Ok(format!(in self.heap; "digest {shown}")?)
     }
 
+    // Here and in the calls below the kind is asked anew, since a type parameter can be named by no value.
     fn amount(&self, text: &[u8]) -> Result<String, Stop> {
         match self.chosen()?.amount {
             AmountKind::Single => read::<Single>(self.heap, text),
