@@ -3,7 +3,7 @@ use Rattle.std.proofs.Common.{◌≡◌, ℕ, zero, suc, ◌+◌, ◌-◌, ◌<�
 use Rattle.std.proofs.lemmas.Bool.{cases_eq, cases_Bool, cond-true, cond-false, eq-eqb, ne_eqb}
 use Rattle.store.specs.Counts.{tally, held}
 use Rattle.store.specs.Calls.{Cleared}
-use Rattle.store.proofs.Tallies.{tally_same, tally_put, tally_two, tally_all, tally_none}
+use Rattle.store.proofs.Tallies.{tally_same, tally_put, tally_two, tally_all, tally_none, tally_le}
 use Rattle.store.specs.Meaning.{holds_key}
 use Rattle.chained_theory.specs.Layout.{closing_at, place_at, has_key, seek_in, scan_at, count_of, record_at, chained_find, chained_of}
 use Rattle.chained_theory.specs.Links.{Laid, Keys, Linked, Forgot}
@@ -83,6 +83,9 @@ module _ (mem mem' : List ℕ) (w n f l b room c : ℕ) (k : Linked mem w n f l 
         | inl s ↦ omega (arith, cond-true {A = ℕ} (eqb (closing_at mem' w y) 0) 1 0 (eq-eqb _ 0 (goes y (omega arith) (omega arith) s)), cond-true {A = ℕ} (eqb (closing_at mem w y) c) 1 0 (eq-eqb _ c s), cond-false {A = ℕ} (eqb (closing_at mem w y) 0) 1 0 (ne_eqb (closing_at mem w y) 0 (λ e. omega arith)))
         | inr d ↦ omega (arith, ap (λ z. cond {A = ℕ} (eqb z 0) 1 0) (stays y (omega arith) (omega arith) d), cond-false {A = ℕ} (eqb (closing_at mem w y) c) 1 0 (ne_eqb (closing_at mem w y) c d))
       ])
+
+  pub clear_few : room + count_of mem w n c ≤ n
+  clear_few = omega (arith, clear_count, k.keys.free, tally_le (λ i. eqb (closing_at mem' w (i + 1)) 0) n)
 
   pub clear_linked : Linked mem' w n f l b (room + count_of mem w n c)
   clear_linked = record {

@@ -13,6 +13,10 @@ pub record_fits : (w n i : ℕ) → 1 ≤ i → i ≤ n → start_of w i + (12 +
 unfolding start_of
 record_fits w n i a b = omega (arith, next_record (i - 1) n (12 + w) (omega arith))
 
+pub seek_none : (mem : List ℕ) (w n i c p : ℕ) → i ≡ 0 → seek_from mem w n i c p ≡ 0
+seek_none mem w zero i c p e = refl
+seek_none mem w (suc n) i c p e = cond-true (eqb i 0) 0 _ (eq-eqb i 0 e)
+
 pub seek_out : (mem : List ℕ) (w n i c p : ℕ) → n ≡ 0 → seek_from mem w n i c p ≡ 0
 seek_out mem w zero i c p e = refl
 seek_out mem w (suc n) i c p e = omega arith
@@ -31,6 +35,12 @@ isSome_chained_find mem w n f l b c p h =
     let t : holds_key f l b c p ≡ true = key_in f l b c p h.0 h.1 h.2 h.3 in
     ap is_some (cond-true (holds_key f l b c p) (record_at mem w (seek_in mem w n c p)) None t)
     ∙ elim (eqb (seek_in mem w n c p) 0) as (λ v. is_some (cond v None (Some (part mem (start_of w (seek_in mem w n c p) + 12) w))) ≡ not v) [ true ↦ refl | false ↦ refl ]
+
+pub rec_next : (w i : ℕ) → 1 ≤ i → start_of w i + (12 + w) ≡ start_of w (i + 1)
+unfolding start_of
+rec_next w i a =
+    let e : i + 1 - 1 ≡ i - 1 + 1 = omega arith in
+    omega (arith, add-mul (i - 1) 1 (12 + w), one-mul (12 + w), ap (λ z. z * (12 + w)) e)
 
 -- what a walk comes to has the key, and lies within
 pub seek_has : (mem : List ℕ) (w n fuel i c p : ℕ) → i ≤ n → ((y : ℕ) → 1 ≤ y → y ≤ n → next_at mem w y ≤ n) → seek_from mem w fuel i c p ≤ n

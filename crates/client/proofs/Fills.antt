@@ -1,8 +1,11 @@
 -- A closing filled place by place.
-use Rattle.std.proofs.Common.{◌≡◌, ℕ, ◌+◌, ◌-◌, ◌≤◌, cond, List, is_some, None, refl, ap, ◌∙◌, inl, inr, arith}
+use Rattle.std.proofs.Common.{◌≡◌, ℕ, ◌+◌, ◌-◌, ◌<◌, ◌≤◌, true, cond, List, is_some, is_ok, Some, None, Ok, Err, Option, Result, sym, refl, ap, ◌∙◌, inl, inr, arith}
 use Rattle.std.proofs.lemmas.Bool.{cases_eq, cond-false}
-use Rattle.store.specs.Meaning.{Meaning}
+use Rattle.refusal.specs.declared.cases.Refusal.{Refusal}
+use Rattle.refusal.specs.Tables.{Answers}
+use Rattle.store.specs.Meaning.{Meaning, inside}
 use Rattle.store.specs.Calls.{SameLimits, Put, Cleared}
+use Rattle.store.proofs.Inside.{key_in}
 use Rattle.store.proofs.Rooms.{cleared_none}
 use Rattle.store.proofs.Tallies.{tally_none}
 use Rattle.client.specs.Fill.{Filled}
@@ -31,6 +34,20 @@ filled_more m k n c p r low f w =
       others = λ d q ne. w.others d q (λ e _. ne e) ∙ f.others d q ne;
       room = omega (arith, w.room, one, f.room);
     }
+
+-- the place of a turn is inside
+pub filled_inside : (m k : Meaning) (c n p : ℕ) (r : List ℕ) → Filled m k c (p - 1) r → (m.first ≤ c) × (c ≤ m.last) → n < m.bound → 1 ≤ p → p ≤ n → inside k c p ≡ true
+filled_inside m k c n p r f s below low high =
+    key_in k.first k.last k.bound c p (omega (arith, s, f.limits.first)) (omega (arith, s, f.limits.last)) low (omega (arith, below, high, f.limits.bound))
+
+-- a call that its table lets through has not refused
+pub not_refused : {X : Type 0} (r : Result X Refusal) (why : Option Refusal) (right : X → Type 0) → Answers r why right → why ≡ None → is_ok r ≡ true
+not_refused (Ok x) why right a none = refl
+not_refused (Err e) why right a none =
+    let f : ◌≡◌ {A = Option Refusal} (Some e) None = sym a ∙ none in
+    let z : ◌≡◌ {A = ℕ} 0 1 = cc in
+    let q : ⊥ = omega arith in
+    absurd q
 
 pub filled_cleared : (m k n : Meaning) (c i : ℕ) (r : List ℕ) → Cleared m k c → Filled k n c i r → Filled m n c i r
 filled_cleared m k n c i r w f = record {

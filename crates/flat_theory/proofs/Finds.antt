@@ -1,16 +1,17 @@
 -- What a flat store's bytes stand for after a write.
-use Rattle.std.proofs.Common.{◌≡◌, ℕ, ◌+◌, ◌-◌, ◌*◌, ◌<◌, ◌≤◌, true, cond, eqb, ◌⊎◌, List, length, get_or, set, is_some, Some, None, sym, refl, ap, ◌∙◌, inl, inr, zero-add, zero-mul, arith, length-drop, length-take}
+use Rattle.std.proofs.Common.{◌≡◌, ℕ, ◌+◌, ◌-◌, ◌*◌, ◌<◌, ◌≤◌, Bool, true, false, cond, not, ◌&&◌, eqb, leb, ◌⊎◌, List, length, get_or, set, is_some, Some, None, sym, refl, ap, ◌∙◌, inl, inr, zero-add, zero-mul, arith, length-drop, length-take}
 use Rattle.std.proofs.lemmas.List.{get_or-set_same, get_or-set_other, length-set}
-use Rattle.std.proofs.lemmas.Bool.{cases_Bool, cond-true, cond-false}
+use Rattle.std.proofs.lemmas.Bool.{cases_Bool, cond-true, cond-false, and_parts, leb-true}
 use Rattle.std.proofs.lemmas.Nat.{mul-le}
 use Rattle.memory.specs.Part.{part, patch}
 use Rattle.memory.proofs.Parts.{length_patch, getD_patch, part_patch, part_same}
-use Rattle.store.specs.Meaning.{Sound, holds_key}
+use Rattle.refusal.specs.declared.cases.Refusal.TheVariants.{MemoryUnfit}
+use Rattle.store.specs.Meaning.{Sound, holds_key, valid_limits}
 use Rattle.store.specs.Counts.{held, held_all}
 use Rattle.store.specs.Calls.{Put, Cleared}
-use Rattle.store.proofs.Inside.{key_out}
+use Rattle.store.proofs.Inside.{key_out, Valid, valid_out}
 use Rattle.store.proofs.Rooms.{not_all}
-use Rattle.flat_theory.specs.Layout.{slot_of, slot_at, flat_find, flat_of, flat_bytes, flat_room}
+use Rattle.flat_theory.specs.Layout.{slot_of, slot_at, flat_find, flat_of, flat_bytes, flat_room, flat_refusal}
 use Rattle.flat_theory.proofs.Slots.{slot_fits, slots_apart, row_slot, index_lt}
 
 -- a slot whose bytes stay says what it said
@@ -73,6 +74,13 @@ only mem w f l b c p r fits e =
           ])
     ]
 
+-- whether a key is written is its mark
+pub isSome_slot_at : (mem : List ℕ) (w i : ℕ) → is_some (slot_at mem w i) ≡ eqb (get_or mem i 0) 1
+isSome_slot_at mem w i = elim (eqb (get_or mem i 0) 1) as (λ t. is_some (cond t (Some (part mem (i + 1) w)) None) ≡ t) [ true ↦ refl | false ↦ refl ]
+
+pub isSome_flat_find : (mem : List ℕ) (w f l b c p : ℕ) → holds_key f l b c p ≡ true → is_some (flat_find mem w f l b c p) ≡ eqb (get_or mem (slot_of w f b c p) 0) 1
+isSome_flat_find mem w f l b c p t = ap is_some (flat_find_inside mem w f l b c p t) ∙ isSome_slot_at mem w (slot_of w f b c p)
+
 -- a row cleared
 pub cleared : (mem mem' : List ℕ) (w f l b c room room' : ℕ) → length mem' ≡ length mem
     → (f ≤ c) × (c ≤ l)
@@ -133,6 +141,16 @@ pub flat_has_room : (mem : List ℕ) (w f l b c p room at : ℕ) → at ≡ slot
     → slot_at mem w at ≡ None → 1 ≤ room
 flat_has_room mem w f l b c p room at e t counts none =
     omega (arith, counts, not_all (flat_of mem w f l b room) c p t (flat_find_inside mem w f l b c p t ∙ ap (slot_at mem w) (sym e) ∙ none))
+
+accepted : (a : Bool) → cond (not a) (Some MemoryUnfit) None ≡ None → a ≡ true
+accepted true e = refl
+accepted false e = let z : ◌≡◌ {A = ℕ} 0 1 = cc in let q : ⊥ = omega arith in absurd q
+
+-- what a measuring that accepts says
+pub flat_fits : (w f l b n : ℕ) → flat_refusal w f l b n ≡ None → Valid w f l b × (flat_bytes w f l b ≤ n)
+flat_fits w f l b n e =
+    let t = and_parts (valid_limits w f l b) (leb (flat_bytes w f l b) n) (accepted (valid_limits w f l b && leb (flat_bytes w f l b) n) e) in
+    (valid_out w f l b t.0, leb-true (flat_bytes w f l b) n t.1)
 
 -- no number on the way is too large for a machine word
 pub flat_small : (w f l b : ℕ) → 1 ≤ f → l ≤ 9999 → b ≤ 2097152 → w ≤ 128 → (l + 1 - f) * b * (w + 1) ≤ 9999 * 2097152 * 129

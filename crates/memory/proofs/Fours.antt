@@ -1,5 +1,5 @@
 -- What a number of four bytes reads as after a write.
-use Rattle.std.proofs.Common.{[], ◌∷◌, suc, sym, ap, add-zero, ◌≡◌, ℕ, ◌+◌, ◌/◌, ◌%◌, ◌<◌, ◌≤◌, ◌≢◌, ◌⊎◌, List, length, get_or, set, ◌∙◌, inl, inr, arith}
+use Rattle.std.proofs.Common.{[], ◌∷◌, suc, sym, ap, add-zero, ◌≡◌, ℕ, ◌+◌, ◌*◌, ◌/◌, ◌%◌, ◌<◌, ◌≤◌, ◌≢◌, ◌⊎◌, List, length, get_or, set, ◌∙◌, inl, inr, arith}
 use Rattle.std.proofs.lemmas.List.{get_or-set_same, get_or-set_other, length-set}
 use Rattle.std.proofs.Math.Seq.{paste, paste-suc, paste-zero}
 use Rattle.memory.specs.Four.{be4, put4}
@@ -27,6 +27,9 @@ be4_put4_other xs i n j (inl h) =
     simp (getD_put4 xs i n j (inl (omega arith)), getD_put4 xs i n (j + 1) (inl (omega arith)), getD_put4 xs i n (j + 2) (inl (omega arith)), getD_put4 xs i n (j + 3) (inl (omega arith)))
 be4_put4_other xs i n j (inr h) =
     simp (getD_put4 xs i n j (inr (omega arith)), getD_put4 xs i n (j + 1) (inr (omega arith)), getD_put4 xs i n (j + 2) (inr (omega arith)), getD_put4 xs i n (j + 3) (inr (omega arith)))
+
+digits4 : (n : ℕ) → n / 16777216 * 16777216 + n / 65536 % 256 * 65536 + n / 256 % 256 * 256 + n % 256 ≡ n
+digits4 n = omega arith
 
 -- the four bytes, from the last write back
 pub be4_put4_same : (xs : List ℕ) (i n : ℕ) → i + 4 ≤ length xs → be4 (put4 xs i n) i ≡ n

@@ -13,6 +13,10 @@ module _ (xs : List ℕ) (i : ℕ) (bs : List ℕ) (fits : i + length bs ≤ len
   getD_patch k (inl h) = search (arith, places)
   getD_patch k (inr h) = grind (arith, places)
 
+  pub getD_patch_in : (k : ℕ) → k < length bs → get_or (patch xs i bs) (i + k) 0 ≡ get_or bs k 0
+  unfolding patch
+  getD_patch_in k h = grind (arith, places)
+
   pub part_patch : part (patch xs i bs) i (length bs) ≡ bs
   unfolding patch
   part_patch =
@@ -25,3 +29,7 @@ part_same xs ys i n l h =
     ext_get_or 0 (part ys i n) (part xs i n) (simp (length-take, length-drop) (omega arith))
     (λ k b. let kn : k < n = omega (arith, simp (length-take, length-drop) at b) in
     get_or-take n (drop i ys) k 0 kn ∙ get_or-drop i ys k 0 ∙ h (i + k) (omega arith) (omega arith) ∙ sym (get_or-take n (drop i xs) k 0 kn ∙ get_or-drop i xs k 0))
+
+pub part_patch_other : (xs : List ℕ) (i : ℕ) (bs : List ℕ) → i + length bs ≤ length xs → (j n : ℕ) → (j + n ≤ i) ⊎ (i + length bs ≤ j) → part (patch xs i bs) j n ≡ part xs j n
+part_patch_other xs i bs fits j n (inl a) = part_same xs (patch xs i bs) j n (length_patch xs i bs fits) (λ k p q. getD_patch xs i bs fits k (inl (omega arith)))
+part_patch_other xs i bs fits j n (inr a) = part_same xs (patch xs i bs) j n (length_patch xs i bs fits) (λ k p q. getD_patch xs i bs fits k (inr (omega arith)))

@@ -24,7 +24,8 @@ fn find_in(stands: &[Stand], closing: Closing) -> Option<Stand>
 
 // Takes a number off a list.
 fn remove_from(stands: &mut ArrayVec<Stand, 8>, closing: Closing)
-    ensures { stands.new.items ≡ without_number number_of closing.0 stands.old.items }
+    ensures is { stands.new.items ≡ without_number number_of closing.0 stands.old.items }
+    ensures fewer { length stands.new.items ≤ length stands.old.items }
 {
     stands.retain(|s| s.closing != closing);
 }
@@ -35,12 +36,14 @@ pub struct Roll {
 }
 
 impl Model for Roll {
-    ghost use Rattle.std.specs.Prelude.{List};
+    ghost use Rattle.std.specs.Prelude.{◌≤◌, List, length};
     ghost use Rattle.roll.specs.declared.types.Stand.{Stand as StandSaid};
 
     ghost Value = { List StandSaid };
 
     ghost view = { λ r. r.stands.items };
+
+    ghost invariant = { λ r. length r.stands.items ≤ 8 };
 }
 
 impl Roll {
@@ -63,7 +66,8 @@ impl Roll {
 
     // The closing of a number, where it stands.
     pub fn find(&self, closing: Closing) -> Option<Stand>
-        ensures { result ≡ under_number number_of closing.0 self.now }
+        ensures is { result ≡ under_number number_of closing.0 self.now }
+        ensures most { length self.now ≤ 8 }
     {
         find_in(&self.stands, closing)
     }
@@ -72,13 +76,15 @@ impl Roll {
     pub fn add(&mut self, stand: Stand)
         ensures added { length self.old < 8 → self.new ≡ self.old ++ (stand ∷ []) }
         ensures full { 8 ≤ length self.old → self.new ≡ self.old }
+        ensures most { (length self.old ≤ 8) × (length self.new ≤ 8) }
     {
         let _ = self.stands.try_push(stand);
     }
 
     // Takes a number off the roll.
     pub fn remove(&mut self, closing: Closing)
-        ensures { self.new ≡ without_number number_of closing.0 self.old }
+        ensures is { self.new ≡ without_number number_of closing.0 self.old }
+        ensures most { (length self.old ≤ 8) × (length self.new ≤ 8) }
     {
         remove_from(&mut self.stands, closing);
     }

@@ -1,11 +1,12 @@
 -- Room and held: what each call makes of them, and where no put is refused.
-use Rattle.std.proofs.Common.{◌≡◌, ℕ, ◌+◌, ◌-◌, ◌*◌, ◌<◌, ◌≤◌, Bool, true, false, ◌≢◌, List, is_some, Some, None, Option, sym, refl, ap, ◌∙◌, inl, inr, arith}
+use Rattle.std.proofs.Common.{◌≡◌, ℕ, ◌+◌, ◌-◌, ◌*◌, ◌<◌, ◌≤◌, Bool, true, false, not, ◌≢◌, List, is_some, Some, None, Option, sym, refl, ap, ◌∙◌, inl, inr, arith}
 use Rattle.std.proofs.lemmas.Bool.{cases_eq, cases_Bool, cond-true, cond-false}
 use Rattle.store.specs.Meaning.{Meaning, in_span, inside}
-use Rattle.store.specs.Counts.{tally, held, held_all, sum_to}
-use Rattle.store.specs.Calls.{Put, Cleared, SameLimits}
+use Rattle.store.specs.Counts.{tally, held, held_all, missing, sum_to}
+use Rattle.store.specs.Calls.{Put, Cleared, SameLimits, put_refusal}
 use Rattle.store.proofs.Inside.{key_out, span_out}
-use Rattle.store.proofs.Tallies.{tally_le, tally_same, tally_miss, tally_put, tally_none, sum_to_change, sum_to_lt, le_sum_to, sum_to_none}
+use Rattle.store.proofs.Refusals.{put_open}
+use Rattle.store.proofs.Tallies.{tally_le, tally_same, tally_miss, tally_some, tally_put, tally_none, tally_not, sum_to_change, sum_to_lt, le_sum_to, sum_to_none}
 
 pub is_none : (o : Option (List ℕ)) → is_some o ≡ false → o ≡ None
 is_none None e = refl
@@ -58,6 +59,41 @@ module _ (m n : Meaning) (c p : ℕ) (r : List ℕ) (t : inside m c p ≡ true) 
   -- another closing has what it had
   pub put_held : (d : ℕ) → (d ≡ c → ⊥) → held n d ≡ held m d
   put_held d ne = held_same m n d w.limits.bound (λ q. w.others d q (λ e _. ne e))
+
+  -- what is missing below a number falls as the room does
+  pub put_missing : (k : ℕ) → p ≤ k → n.room + missing m c k ≡ m.room + missing n c k
+  put_missing k h =
+      let m1 = tally_not before k in
+      let n1 = tally_not after k in
+      elim (cases_Bool (is_some (m.find c p))) [
+        | inl e ↦ omega (arith, w.room, cond-true {A = ℕ} (is_some (m.find c p)) 0 1 e, tally_same before after k (λ j _. all e j), m1, n1)
+        | inr e ↦ omega (arith, w.room, cond-false {A = ℕ} (is_some (m.find c p)) 0 1 e, tally_put before after k (p - 1) (omega (arith, i)) (λ j _ d. same j d) (was ∙ e) there, m1, n1)
+      ]
+
+-- an absent key of a closing with room for all of it
+pub has_room : (m : Meaning) (c p : ℕ) → inside m c p ≡ true → m.bound - 1 ≤ m.room + held m c → m.find c p ≡ None → 1 ≤ m.room
+has_room m c p t h e =
+    let f : ℕ → Bool = λ k. is_some (m.find c (k + 1)) in
+    let i = key_out m.first m.last m.bound c p t in
+    let at : p - 1 + 1 ≡ p = omega (arith, i) in
+    let gone : f (p - 1) ≡ false = ap (λ q. is_some (m.find c q)) at ∙ ap is_some e in
+    omega (arith, tally_miss f (m.bound - 1) (p - 1) (omega (arith, i)) gone)
+
+-- an absent key among 1 to k, where the room is enough for what is missing there
+pub room_for : (m : Meaning) (c p k : ℕ) → 1 ≤ p → p ≤ k → missing m c k ≤ m.room → m.find c p ≡ None → 1 ≤ m.room
+room_for m c p k a b h e =
+    let f : ℕ → Bool = λ j. not (is_some (m.find c (j + 1))) in
+    let at : p - 1 + 1 ≡ p = omega arith in
+    let gone : f (p - 1) ≡ true = ap (λ q. not (is_some (m.find c q))) at ∙ ap (λ o. not (is_some o)) e in
+    omega (arith, tally_some f k (p - 1) (omega arith) gone)
+
+-- No put at a place of 1 to k is refused, where the room is enough for what is missing there; `put_missing` keeps that so.
+pub put_fits : (m : Meaning) (c p k n : ℕ) → inside m c p ≡ true → p ≤ k → n ≡ m.width → missing m c k ≤ m.room → put_refusal m c p n ≡ None
+put_fits m c p k n t b w h = put_open m c p n t w (λ e. room_for m c p k (key_out m.first m.last m.bound c p t).2 b h e)
+
+-- what is missing in a closing that holds nothing
+pub missing_le : (m : Meaning) (c k : ℕ) → missing m c k ≤ k
+missing_le m c k = tally_le (λ j. not (is_some (m.find c (j + 1)))) k
 
 -- where one closing alone changes, what is written in all changes as it does
 held_all_change : (m n : Meaning) (c : ℕ) → in_span m c ≡ true → SameLimits m n → ((k : ℕ) → (k ≡ c → ⊥) → held n k ≡ held m k) → held_all n + held m c ≡ held_all m + held n c

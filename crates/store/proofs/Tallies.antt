@@ -1,8 +1,11 @@
 -- Counts of what passes below a number, and sums.
-use Rattle.std.proofs.Common.{List, ◌∷◌, length, zero-add, ◌≡◌, ℕ, zero, suc, ◌+◌, ◌*◌, ◌<◌, ◌≤◌, Bool, true, false, cond, ◌≢◌, sym, refl, ap, inl, inr, suc-mul, zero-mul, arith}
+use Rattle.std.proofs.Common.{List, ◌∷◌, length, zero-add, ◌≡◌, ℕ, zero, suc, ◌+◌, ◌*◌, ◌<◌, ◌≤◌, Bool, true, false, cond, not, ◌≢◌, sym, refl, ap, inl, inr, suc-mul, zero-mul, add-one, arith}
 use Rattle.std.proofs.lemmas.Bool.{cases_eq}
 use Rattle.std.specs.List.{filter, range_with_len}
 use Rattle.store.specs.Counts.{tally, sum_to}
+
+pub tally_more : (f : ℕ → Bool) (n : ℕ) → tally f (n + 1) ≡ tally f n + cond (f n) 1 0
+tally_more f n = rw add-one
 
 abbrev bit : Bool → ℕ
 bit b = cond b 1 0
@@ -10,6 +13,10 @@ bit b = cond b 1 0
 pub bit_le : (b : Bool) → cond b 1 0 ≤ 1
 bit_le true = omega arith
 bit_le false = omega arith
+
+bit_not : (b : Bool) → bit (not b) + bit b ≡ 1
+bit_not true = refl
+bit_not false = refl
 
 pub tally_le : (f : ℕ → Bool) (n : ℕ) → tally f n ≤ n
 tally_le f zero = omega arith
@@ -19,11 +26,26 @@ pub tally_same : (f g : ℕ → Bool) (n : ℕ) → ((k : ℕ) → k < n → g k
 tally_same f g zero h = refl
 tally_same f g (suc n) h = omega (arith, tally_same f g n (λ k l. h k (omega arith)), ap bit (h n (omega arith)))
 
+pub tally_not : (f : ℕ → Bool) (n : ℕ) → tally (λ k. not (f k)) n + tally f n ≡ n
+tally_not f zero = refl
+tally_not f (suc n) = omega (arith, tally_not f n, bit_not (f n))
+
+-- fewer are counted below a smaller number
+pub tally_mono : (f : ℕ → Bool) (n k : ℕ) → k ≤ n → tally f k ≤ tally f n
+tally_mono f zero k h = let e : k ≡ 0 = omega arith in omega (arith, ap (tally f) e)
+tally_mono f (suc n) k h = elim (cases_eq k (suc n)) [ inl e ↦ omega (arith, ap (tally f) e) | inr d ↦ omega (arith, tally_mono f n k (omega arith)) ]
+
 -- one that fails
 pub tally_miss : (f : ℕ → Bool) (n k : ℕ) → k < n → f k ≡ false → tally f n < n
 tally_miss f zero k l e = omega arith
 tally_miss f (suc n) k l e =
     elim (cases_eq k n) [ inl s ↦ (let z : f n ≡ false = rw (sym s) e in omega (arith, tally_le f n, ap bit z)) | inr d ↦ omega (arith, tally_miss f n k (omega arith) e, bit_le (f n)) ]
+
+-- one that passes
+pub tally_some : (f : ℕ → Bool) (n k : ℕ) → k < n → f k ≡ true → 1 ≤ tally f n
+tally_some f zero k l e = omega arith
+tally_some f (suc n) k l e =
+    elim (cases_eq k n) [ inl s ↦ (let z : f n ≡ true = rw (sym s) e in omega (arith, ap bit z)) | inr d ↦ omega (arith, tally_some f n k (omega arith) e) ]
 
 -- one more
 pub tally_put : (f g : ℕ → Bool) (n k : ℕ) → k < n → ((j : ℕ) → j < n → j ≢ k → g j ≡ f j) → f k ≡ false → g k ≡ true → tally g n ≡ tally f n + 1

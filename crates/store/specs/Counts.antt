@@ -1,5 +1,5 @@
 -- How many keys are written.
-use Rattle.std.specs.Prelude.{ℕ, zero, suc, ◌+◌, ◌-◌, Bool, cond, is_some}
+use Rattle.std.specs.Prelude.{ℕ, zero, suc, ◌+◌, ◌-◌, Bool, cond, not, is_some}
 use Rattle.store.specs.Meaning.{Meaning}
 
 -- how many k below n pass
@@ -10,6 +10,10 @@ tally f (suc n) = tally f n + cond (f n) 1 0
 -- how many places of closing c are written, of 1 to bound - 1
 abbrev pub held : Meaning → ℕ → ℕ
 held m c = tally (λ k. is_some (m.find c (k + 1))) (m.bound - 1)
+
+-- how many places of closing c are not written, of 1 to n
+abbrev pub missing : Meaning → ℕ → ℕ → ℕ
+missing m c n = tally (λ k. not (is_some (m.find c (k + 1)))) n
 
 -- f 0 + .. + f (n - 1)
 abbrev pub sum_to : (ℕ → ℕ) → ℕ → ℕ

@@ -8,7 +8,7 @@ returns-in_default g c = record {
   digest = refl;
   same = (refl, refl);
   refused = refl;
-  answers = λ s keeps shut. sym (no_file keeps c.args.closing.0 c.in_default.ensures shut c.args.leaf.0 c.args.out.now);
+  answers = λ s keeps shut. sym (no_file keeps c.args.closing.0 c.in_default.ensures.is shut c.args.leaf.0 c.args.out.now);
   stays = λ s keeps. keeps;
 }
 
@@ -17,7 +17,7 @@ returns-then-leaf-stand g c = record {
   digest = refl;
   same = (refl, refl);
   refused = refl;
-  answers = λ s keeps shut. sym (no_leaf keeps c.args.closing.0 c.in-Some.stand (sym c.in-Some.is ∙ c.find.ensures) shut c.args.leaf.0 c.if-leaf-stand.true c.args.out.now);
+  answers = λ s keeps shut. sym (no_leaf keeps c.args.closing.0 c.in-Some.stand (sym c.in-Some.is ∙ c.find.ensures.is) shut c.args.leaf.0 c.if-leaf-stand.true c.args.out.now);
   stays = λ s keeps. keeps;
 }
 
@@ -32,7 +32,7 @@ returns g c =
       same = w.same;
       refused = w.refused;
       answers = λ s keeps shut.
-          let e = sym c.in-Some.is ∙ c.find.ensures in
+          let e = sym c.in-Some.is ∙ c.find.ensures.is in
           let low = c.if-leaf-stand.false in
           file_told keeps n x e shut i low c.write_file.result _ _
           (w.answers (there keeps n x e).0 (get_or (there keeps n x e).0.lines i no_line) (tree_stands keeps n x e) (texts_stand keeps n x e) (number_is keeps n x e) (depth_is keeps n x e) (leaf_there keeps n x e shut i low));

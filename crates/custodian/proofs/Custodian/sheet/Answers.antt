@@ -7,7 +7,7 @@ returns-in_default g c = record {
   digest = refl;
   same = (refl, refl);
   refused = refl;
-  answers = λ s keeps. sym (no_sheet keeps c.args.closing.0 c.in_default.ensures c.args.out.now);
+  answers = λ s keeps. sym (no_sheet keeps c.args.closing.0 c.in_default.ensures.is c.args.out.now);
   stays = λ s keeps. keeps;
 }
 
@@ -20,7 +20,7 @@ returns g c =
       same = (c.write_sheet.ensures.same, refl);
       refused = c.write_sheet.ensures.refused;
       answers = λ s keeps.
-          let e = sym c.in-Some.is ∙ c.find.ensures in
+          let e = sym c.in-Some.is ∙ c.find.ensures.is in
           sheet_told keeps n x e c.write_sheet.result _ _ (c.write_sheet.ensures.answers (there keeps n x e).0 (tree_stands keeps n x e) (number_is keeps n x e) (depth_is keeps n x e));
       stays = λ s keeps. same_stores c.write_sheet.ensures.same refl keeps;
     }

@@ -18,6 +18,6 @@ returns g c =
           let spans = withdraw_spans keeps n there in
           let a = c.forget_both.ensures.nodes spans.0 in
           let b = c.forget_both.ensures.leaves spans.1 in
-          let r = c.remove.ensures ∙ ap (without_number number_of n) rest.1 in
+          let r = c.remove.ensures.is ∙ ap (without_number number_of n) rest.1 in
           ((a, b), same_digest g.D.Digest.hash was.digest _ rest.0 (keeps_withdrawn keeps n there a b r));
     }
