@@ -1,4 +1,4 @@
-use Rattle.std.proofs.Common.{◌≡◌, ℕ, ◌+◌, ◌-◌, ◌≤◌, length, sym, ◌∙◌, subst, arith}
+use Rattle.std.proofs.Common.{length, sym, ◌∙◌, subst, arith}
 use Rattle.store.specs.Meaning.{Meaning}
 use Rattle.store.specs.Calls.{Put, put_refusal}
 use Rattle.store.proofs.Inside.{span_out}
