@@ -1,5 +1,5 @@
 -- Finding and leaving out by a number, by what a list has of its items.
-use Rattle.std.proofs.Common.{◌≡◌, ℕ, Bool, true, false, cond, not, eqb, List, [], ◌∷◌, map, Some, None, refl, ap}
+use Rattle.std.proofs.Common.{◌≡◌, ℕ, Bool, true, false, cond, not, eqb, List, [], ◌∷◌, map, Some, refl, ap}
 use Rattle.std.specs.Option.{option_map}
 use Rattle.roll.specs.Rolls.{under_number, without_number}
 
