@@ -4,12 +4,14 @@ ghost use Rattle.memory.specs.Four.{be4, put4};
 ghost use Rattle.memory.specs.Part.{patch};
 ghost use Rattle.chained_theory.specs.Layout.{start_of};
 
+use std::array::from_fn;
+
 // The number of four bytes at `at`.
 pub(crate) fn read4(memory: &[u8], at: usize) -> u32
     requires { at + 4 ≤ length memory.now }
     ensures { result ≡ be4 memory.now at }
 {
-    u32::from_be_bytes(*memory[at..].first_chunk().unwrap())
+    u32::from_be_bytes(from_fn(|i| memory[at + i]))
 }
 
 pub(crate) fn write4(memory: &mut [u8], at: usize, n: u32)

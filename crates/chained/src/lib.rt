@@ -228,13 +228,16 @@ impl Chained {
         None
     }
 
-    // How many places of a closing are written: a walk over the records.
+    // How many places of a closing are written: a walk over the records, in one loop as in the flat store.
     fn count(&self, closing: Closing) -> u32
         requires { in_span (chained_meaning self.now) closing.0 ≡ true }
         ensures { result ≡ held_in (chained_meaning self.now) closing.0 }
     {
-        let is_of = |number: &u32| Record::new(self, *number).key().closing == closing;
-        (1..self.count + 1).filter(is_of).count() as u32
+        let mut held = 0;
+        for k in 0..self.count {
+            held += u32::from(Record::new(self, k + 1).closing().0 == closing.0);
+        }
+        held
     }
 
     // The first free record's number.

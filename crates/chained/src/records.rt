@@ -53,23 +53,26 @@ impl<'a> Record<'a> {
         Record::at(self.store, read4(&self.store.memory, self.start()))
     }
 
-    // Its key, whose closing is 0 where the record is free.
-    #[tactic(auto, unfolding(chained_theory::specs::Layout::closing_at, chained_theory::specs::Layout::place_at))]
-    pub(crate) fn key(self) -> Key
-        ensures closing { result.closing.0 ≡ record_closing self.entry }
-        ensures place { result.place.0 ≡ record_place self.entry }
+    // The closing of its key, 0 where the record is free.
+    #[tactic(auto, unfolding(chained_theory::specs::Layout::closing_at))]
+    pub(crate) fn closing(self) -> Closing
+        ensures { result.0 ≡ record_closing self.entry }
     {
-        let at = self.start();
-        Key {
-            closing: Closing(read4(&self.store.memory, at + 4)),
-            place: Place(read4(&self.store.memory, at + 8)),
-        }
+        Closing(read4(&self.store.memory, self.start() + 4))
+    }
+
+    // The place of its key.
+    #[tactic(auto, unfolding(chained_theory::specs::Layout::place_at))]
+    pub(crate) fn place(self) -> Place
+        ensures { result.0 ≡ record_place self.entry }
+    {
+        Place(read4(&self.store.memory, self.start() + 8))
     }
 
     pub(crate) fn has(self, key: Key) -> bool
         ensures { result ≡ record_has self.entry key.closing.0 key.place.0 }
     {
-        self.key() == key
+        self.closing() == key.closing && self.place() == key.place
     }
 
     // The bytes behind its key.

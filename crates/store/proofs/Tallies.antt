@@ -1,4 +1,5 @@
 -- Counts of what passes below a number, and sums.
+use mir.Val.{bool_byte}
 use Rattle.std.proofs.Common.{List, ◌∷◌, length, zero-add, ◌≡◌, ℕ, zero, suc, ◌+◌, ◌*◌, ◌<◌, ◌≤◌, Bool, true, false, cond, not, ◌≢◌, sym, refl, ap, inl, inr, suc-mul, zero-mul, add-one, arith}
 use Rattle.std.proofs.lemmas.Bool.{cases_eq}
 use Rattle.std.specs.List.{filter, range_with_len}
@@ -9,6 +10,11 @@ tally_more f n = rw add-one
 
 abbrev bit : Bool → ℕ
 bit b = cond b 1 0
+
+-- a test as a number
+pub bit_byte : (b : Bool) → bool_byte b ≡ cond b 1 0
+bit_byte true = refl
+bit_byte false = refl
 
 pub bit_le : (b : Bool) → cond b 1 0 ≤ 1
 bit_le true = omega arith

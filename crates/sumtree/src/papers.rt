@@ -23,7 +23,7 @@ pub(crate) fn fields<A: Amount>(heap: Global, depth: u32, file: &[u8]) -> Result
         let offset = found.offset;
         let name = found.field.name();
         let part = Shown(found.field.part());
-        line.push_str(format!(in heap; " {name}@{offset}={part}")?.as_str())?;
+        write!(line, " {name}@{offset}={part}")?;
     }
     Ok(line)
 }

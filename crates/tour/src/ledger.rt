@@ -33,8 +33,9 @@ fn line_of(words: &[&str]) -> Option<Line<Single>> {
     })
 }
 
+// The words that a row may have to say: whatever follows the fourth is passed over, and takes no memory.
 fn words(heap: Global, text: &str) -> Result<Vec<&str>, AllocError> {
-    text.split(' ').collect(heap)
+    text.split(' ').take(4).collect(heap)
 }
 
 fn read_line(heap: Global, row: &str) -> anyhow::Result<Line<Single>> {

@@ -1,6 +1,5 @@
-use mir.Val.{bool_byte}
-use Rattle.std.proofs.Common.{Bool, true, false, refl, ◌≡◌, ℕ, suc, ◌+◌, ◌≤◌, cond, eqb, List, sym, ap, ◌∙◌, subst, add-one, arith}
-use Rattle.store.proofs.Tallies.{bit_le}
+use Rattle.std.proofs.Common.{refl, ◌≡◌, ℕ, suc, ◌+◌, ◌≤◌, cond, eqb, List, sym, ap, ◌∙◌, subst, add-one, arith}
+use Rattle.store.proofs.Tallies.{bit_byte, bit_le}
 use Rattle.memory.specs.Four.{be4}
 use Rattle.chained_theory.specs.Layout.{start_of, next_at, closing_at, place_at, count_of, without, home_of, front_of}
 use Rattle.chained_theory.specs.Links.{Laid, Fronted, Forgot}
@@ -18,10 +17,6 @@ loop-i-init c = record {
   counted = omega arith;
   forgot = nothing_forgot _ c.args.width c.args.count _ _;
 }
-
-byte : (b : Bool) → bool_byte b ≡ cond b 1 0
-byte true = refl
-byte false = refl
 
 pub loop-i-preserved : goal.loop-i-preserved
 unfolding closing_at place_at
@@ -43,7 +38,7 @@ loop-i-preserved c =
     let e : m' ≡ front_of m (start_of w (suc i)) (suc i) (home_of k p) k = cc (add-one i) in
     let u : Fronted m m' w n (suc i) (home_of k p) k = subst (λ xs. Fronted m xs w n (suc i) (home_of k p) k) (sym e) (fronts m w n (suc i) (home_of k p) k (omega arith) (omega arith) (omega arith) (home_high k p)) in
     let up : suc i ≡ i + 1 = sym (add-one i) in
-    let bit : c.from-free.result ≡ cond {A = ℕ} (eqb k 0) 1 0 = c.from-free.ensures ∙ byte (eqb c.left-closing.result 0) ∙ ap (λ z. cond {A = ℕ} (eqb z 0) 1 0) ke in
+    let bit : c.from-free.result ≡ cond {A = ℕ} (eqb k 0) 1 0 = c.from-free.ensures ∙ bit_byte (eqb c.left-closing.result 0) ∙ ap (λ z. cond {A = ℕ} (eqb z 0) 1 0) ke in
     let more : c.loop-i.free + c.from-free.result ≡ count_of m' w (suc i) 0 = omega (arith, bit, inv.counted, more_counts m m' w n i k inv.laid (omega arith) u) in
     record {
       laid = subst (λ z. Laid m' w z) up (more_laid m m' w n i k inv.laid (omega arith) u);

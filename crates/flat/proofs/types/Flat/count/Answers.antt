@@ -1,27 +1,30 @@
-use Rattle.std.proofs.Common.{◌≡◌, ℕ, ◌+◌, ◌-◌, Bool, is_some, length, vec_items, refl, sym, ap, ◌∙◌, arith, rules}
-use Rattle.std.specs.List.{range_with_len, filter}
-use Rattle.std.proofs.lemmas.Iterator.{YieldsList-from_range}
-use Rattle.std.proofs.lemmas.Iterator.Consumers.{YieldsList-from_filter, count_from_yields_List}
-use borrow.Author.Tests.{tests}
+use Rattle.std.proofs.Common.{◌≡◌, ℕ, ◌+◌, Bool, cond, is_some, vec_items, sym, ap, ◌∙◌, arith}
 use Rattle.store.proofs.Inside.{key_in, span_out}
-use Rattle.store.proofs.Tallies.{tally_kept, tally_same}
+use Rattle.store.proofs.Tallies.{bit_byte, bit_le, tally_more}
 use Rattle.flat.specs.Meaning.{flat_meaning}
-use Rattle.flat_theory.specs.Layout.{slot_of, slot_at}
+use Rattle.flat_theory.specs.Layout.{slot_at}
 use Rattle.flat_theory.proofs.Finds.{flat_find_inside}
 use Rattle.flat.proofs.types.Flat.count.Goals as goal
 
-pub returns : goal.returns
-returns c =
+pub slot-at-requires : goal.slot-at-requires
+slot-at-requires c =
+    let n = c.args.self.now.extent.limits in
+    let i = span_out n.first n.last c.args.closing.0 c.requires in
+    key_in n.first n.last n.bound c.args.closing.0 (c.loop-k.k + 1) i.0 i.1 (omega arith) (omega arith)
+
+pub loop-k-preserved : goal.loop-k-preserved
+loop-k-preserved c =
     let s = c.args.self.now in
     let n = s.extent.limits in
-    let k = c.args.closing.0 in
-    let t : ℕ → Bool = λ p. is_some (slot_at (vec_items s.memory) n.width (slot_of n.width n.first n.bound k p)) in
-    let f : ℕ → Bool = λ q. is_some ((flat_meaning s).find k (q + 1)) in
-    let kept : c.count.result ≡ length (filter t (range_with_len 1 (n.bound - 1))) =
-    count_from_yields_List _ _ c.count.ensures.ran
-    (YieldsList-from_filter _ t (YieldsList-from_range 1 n.bound (n.bound - 1) c.filter.ensures.source refl) c.filter.ensures.closure (λ x r q h. search (rules, tests))) in
-    let i = span_out n.first n.last k c.requires in
-    kept
-    ∙ tally_kept t 1 (n.bound - 1)
-    ∙ tally_same f (λ q. t (q + 1)) (n.bound - 1)
-    (λ q h. ap is_some (sym (flat_find_inside (vec_items s.memory) n.width n.first n.last n.bound k (q + 1) (key_in n.first n.last n.bound k (q + 1) i.0 i.1 (omega arith) (omega arith)))))
+    let k = c.loop-k.k in
+    let a = c.args.closing.0 in
+    let m = vec_items s.memory in
+    let f : ℕ → Bool = λ q. is_some ((flat_meaning s).find a (q + 1)) in
+    let i = span_out n.first n.last a c.requires in
+    let t = key_in n.first n.last n.bound a (k + 1) i.0 i.1 (omega arith) (omega arith) in
+    let same : c.is_written.result ≡ f k = c.is_written.ensures ∙ ap (λ j. is_some (slot_at m n.width j)) c.slot-at.ensures.is ∙ ap is_some (sym (flat_find_inside m n.width n.first n.last n.bound a (k + 1) t)) in
+    let bit : c.from-written.result ≡ cond {A = ℕ} (f k) 1 0 = c.from-written.ensures ∙ bit_byte c.is_written.result ∙ ap (λ b. cond {A = ℕ} b 1 0) same in
+    record {
+      few = omega (arith, bit, bit_le (f k), c.loop-k.invariant.few);
+      counted = omega (arith, bit, tally_more f k, c.loop-k.invariant.counted);
+    }
