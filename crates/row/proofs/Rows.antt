@@ -1,5 +1,6 @@
 -- Rows of numbers, one number after the other.
 use Rattle.std.proofs.Common.{◌≡◌, ℕ, zero, suc, ◌+◌, ◌-◌, ◌*◌, ◌^◌, ◌<◌, true, ◌&&◌, List, [], ◌∷◌, ◌++◌, length, take, drop, replicate, sym, refl, ap, ◌∙◌, nat_le, arith, length-append, append_assoc, ltb→lt, Fits, w64}
+use lib.Dec.{leb-suc-suc}
 use borrow.Rule.Slice.PartMut.{put_mid, post_of}
 use Rattle.std.specs.List.{list_all, zip, slice_index}
 use Rattle.std.proofs.lemmas.List.{drop-drop, take_at, drop_at, length-take-le, length-replicate}
@@ -15,6 +16,10 @@ zero_long n = length-replicate n 0
 pub zero_small : (n : ℕ) → list_all small (replicate n 0) ≡ true
 zero_small zero = refl
 zero_small (suc n) = zero_small n
+
+-- to be at most 2^63 - 1 is to be small
+pub small_most : (x : ℕ) → nat_le x 9223372036854775807 ≡ small x
+small_most x = sym (leb-suc-suc x 9223372036854775807)
 
 -- number k of a row of small numbers
 pub small_at : (m : List ℕ) (k : ℕ) → list_all small m ≡ true → slice_index m k < 2 ^ 63

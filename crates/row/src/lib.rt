@@ -13,12 +13,9 @@ ghost use Rattle.amount.specs.Kinds.{Kind, Laws};
 ghost use Rattle.amount.specs.Rows.{single as single_kind, purse as purse_kind, rows, small, plus, numbers, bytes};
 ghost use Rattle.amount.proofs.RowLaws.{single_laws, purse_laws, row_writable, row_parts};
 
-use amount::Amount;
+use amount::{Amount, MOST};
 use octets::{BigEndian, read_be};
 use refusal::cases::Refusal;
-
-// No number of a row reaches it.
-const LIMIT: u64 = 1 << 63;
 
 // The amounts of kind KIND: rows of N numbers, each below 2^63.
 #[derive(Clone, Copy, Debug, PartialEq, Eq)]
@@ -60,10 +57,11 @@ impl RowKind<2, 4> for Purse {
 }
 
 // Whether each number is below 2^63.
+#[tactic(auto, using(crate::proofs::Rows::small_most))]
 fn all_small(cents: &[u64]) -> bool
     ensures { result ≡ list_all small cents.now }
 {
-    cents.iter().all(|c| *c < LIMIT)
+    cents.iter().all(|c| *c <= MOST)
 }
 
 // Whether each number is at most its partner.
