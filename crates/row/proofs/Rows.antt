@@ -36,6 +36,10 @@ pairs_at_most n [] (b ∷ y) l m = absurd (omega arith)
 pairs_at_most n (a ∷ x) [] l m = absurd (omega arith)
 pairs_at_most n (a ∷ x) (b ∷ y) l m = ap (λ t. nat_le a b && t) (pairs_at_most (length x) x y refl (omega arith))
 
+-- the order of rows as long as each other, as a test on their pairs
+pub at_most_pairs : (x y : List ℕ) → length x ≡ length y → at_most x y ≡ list_all (λ p. nat_le p.0 p.1) (zip x y)
+at_most_pairs x y h = sym (pairs_at_most (length y) x y h refl)
+
 pub plus_each : (n : ℕ) (x y z : List ℕ) → length x ≡ n → length y ≡ n → length z ≡ n → ((k : ℕ) → k < n → slice_index z k ≡ slice_index x k + slice_index y k) → z ≡ plus x y
 plus_each n [] y [] a b c h = refl
 plus_each n [] y (e ∷ z) a b c h = absurd (omega arith)

@@ -169,6 +169,7 @@ where
         Self::of_cents(sums(&self.cents, &other.cents)).ok_or(Refusal::JoinUnwritable(0))
     }
 
+    #[tactic(auto, using(crate::proofs::Rows::at_most_pairs))]
     fn under(self, other: Self) -> bool {
         all_at_most(&self.cents, &other.cents)
     }
