@@ -7,7 +7,7 @@ use Rattle.octets.specs.Tests.{same}
 use Rattle.octets.proofs.Numbers.{value_be_small, be_value}
 use Rattle.octets.proofs.Passes.{both_in, both_out, eqb_in, same_refl, same_out, true_T, false_T}
 use Rattle.amount.specs.Kinds.{Laws}
-use Rattle.amount.specs.Rows.{plus, at_most, small, writable, bytes, numbers, read, rows, Allowed}
+use Rattle.amount.specs.Rows.{plus, at_most, small, writable, bytes, numbers, read, rows, Allowed, single, purse}
 
 abbrev pub Small : ℕ → Type 0
 Small x = x < 2 ^ 63
@@ -175,6 +175,12 @@ single_allowed = (omega arith, omega arith, omega arith)
 
 pub purse_allowed : Allowed 2 4
 purse_allowed = (omega arith, omega arith, omega arith)
+
+pub single_laws : Laws single
+single_laws = rows_laws 1 1 single_allowed
+
+pub purse_laws : Laws purse
+purse_laws = rows_laws 2 4 purse_allowed
 
 -- a writable row is as long as its kind says, and has small numbers only
 pub row_writable : (count : ℕ) (m : List ℕ) → length m ≡ count → list_all small m ≡ true → T (writable count m)

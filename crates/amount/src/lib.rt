@@ -1,9 +1,9 @@
 //! Amounts: what a kind of amount is, and its laws.
 //!
 //! `specs/Kinds` is what the rest of the library knows of amounts: a record of what a kind has, and its laws.
-//! A new kind is a crate of its own that implements `Amount` and shows the laws, and a new kind of rows a name and a fact in
-//! `row`; nothing above may use more than the laws say. `specs/Rows` has the kinds whose amounts are rows of numbers, with
-//! their laws shown once for every such kind.
+//! A new kind is a crate of its own that implements `Amount` and shows the laws, and a new kind of rows a definition here and a
+//! name in `row`; nothing above may use more than the laws say. `specs/Rows` has the kinds whose amounts are rows of numbers,
+//! with their laws shown once for every such kind.
 #![tactic(auto)]
 
 ghost use Rattle.std.specs.Prelude.{◌≡◌, ℕ, ◌<◌, ◌≤◌, false, T, List, length, Some, MatchOption, slice_index};
@@ -11,6 +11,9 @@ ghost use Rattle.refusal.specs.Tables.{Answers, written};
 ghost use Rattle.amount.specs.Kinds.{Kind, Laws, join_refusal, read_refusal, write_refusal};
 
 use refusal::cases::Refusal;
+
+// The largest number of an amount that is a row of numbers: 2^63 - 1.
+pub const MOST: u64 = 0x7fff_ffff_ffff_ffff;
 
 pub trait Amount: Copy {
     ghost kind: { Kind };

@@ -1,5 +1,6 @@
 -- Rows of numbers, one number after the other.
 use Rattle.std.proofs.Common.{◌≡◌, ℕ, zero, suc, ◌+◌, ◌-◌, ◌*◌, ◌^◌, ◌<◌, true, ◌&&◌, List, [], ◌∷◌, ◌++◌, length, take, drop, replicate, sym, refl, ap, ◌∙◌, nat_le, arith, length-append, append_assoc, ltb→lt, Fits, w64}
+use lib.Dec.{leb-suc-suc}
 use borrow.Rule.Slice.PartMut.{put_mid, post_of}
 use Rattle.std.specs.List.{list_all, zip, slice_index}
 use Rattle.std.proofs.lemmas.List.{drop-drop, take_at, drop_at, length-take-le, length-replicate}
@@ -16,6 +17,10 @@ pub zero_small : (n : ℕ) → list_all small (replicate n 0) ≡ true
 zero_small zero = refl
 zero_small (suc n) = zero_small n
 
+-- to be at most 2^63 - 1 is to be small
+pub small_most : (x : ℕ) → nat_le x 9223372036854775807 ≡ small x
+small_most x = sym (leb-suc-suc x 9223372036854775807)
+
 -- number k of a row of small numbers
 pub small_at : (m : List ℕ) (k : ℕ) → list_all small m ≡ true → slice_index m k < 2 ^ 63
 small_at [] k h = omega arith
@@ -30,6 +35,10 @@ pairs_at_most n [] [] l m = refl
 pairs_at_most n [] (b ∷ y) l m = absurd (omega arith)
 pairs_at_most n (a ∷ x) [] l m = absurd (omega arith)
 pairs_at_most n (a ∷ x) (b ∷ y) l m = ap (λ t. nat_le a b && t) (pairs_at_most (length x) x y refl (omega arith))
+
+-- the order of rows as long as each other, as a test on their pairs
+pub at_most_pairs : (x y : List ℕ) → length x ≡ length y → at_most x y ≡ list_all (λ p. nat_le p.0 p.1) (zip x y)
+at_most_pairs x y h = sym (pairs_at_most (length y) x y h refl)
 
 pub plus_each : (n : ℕ) (x y z : List ℕ) → length x ≡ n → length y ≡ n → length z ≡ n → ((k : ℕ) → k < n → slice_index z k ≡ slice_index x k + slice_index y k) → z ≡ plus x y
 plus_each n [] y [] a b c h = refl

@@ -1,23 +1,21 @@
 //! Amounts that are rows of numbers: kind 1, single, one number of cents; kind 2, purse, cents in four fixed currencies.
 //!
-//! The bound is in the type: no number of a row is 2^63 or more. A new kind of rows is a name for its rows and the fact that
-//! the laws allow its number and its length; only this crate knows that a meaning is the row itself.
+//! The bound is in the type: no number of a row is 2^63 or more. A new kind of rows is a name for its rows, with its definition
+//! and laws from `amount`; only this crate knows that a meaning is the row itself.
 #![tactic(auto)]
 
 ghost use Rattle.std.specs.Prelude.{◌≡◌, ℕ, ◌+◌, ◌*◌, ◌≤◌, true, false, length, take, drop, MatchOption, nat_le};
 ghost use Rattle.std.specs.List.{list_all, zip};
-ghost use Rattle.std.proofs.Common.{refl};
+ghost use Rattle.std.proofs.Common.{refl, subst};
 ghost use Rattle.octets.specs.BigEndian.{value};
 ghost use Rattle.refusal.specs.Tables.{written};
-ghost use Rattle.amount.specs.Rows.{Allowed, rows, small, plus, numbers, bytes};
-ghost use Rattle.amount.proofs.RowLaws.{rows_laws, single_allowed, purse_allowed, row_writable, row_parts};
+ghost use Rattle.amount.specs.Kinds.{Kind, Laws};
+ghost use Rattle.amount.specs.Rows.{single as single_kind, purse as purse_kind, rows, small, plus, numbers, bytes};
+ghost use Rattle.amount.proofs.RowLaws.{single_laws, purse_laws, row_writable, row_parts};
 
-use amount::Amount;
+use amount::{Amount, MOST};
 use octets::{BigEndian, read_be};
 use refusal::cases::Refusal;
-
-// No number of a row reaches it.
-const LIMIT: u64 = 1 << 63;
 
 // The amounts of kind KIND: rows of N numbers, each below 2^63.
 #[derive(Clone, Copy, Debug, PartialEq, Eq)]
@@ -27,30 +25,43 @@ pub struct Row<const KIND: u8, const N: usize> {
     ghost bound: { list_all small cents ≡ true },
 }
 
-// The laws of amounts allow the number of the kind and the length of its rows.
+// The kind that `amount` defines as number KIND, rows of N numbers, and its laws.
 pub trait RowKind<const KIND: u8, const N: usize> {
-    ghost allowed: { Allowed KIND N };
+    ghost definition: { Kind };
+
+    ghost is_rows: { definition ≡ rows KIND N };
+
+    ghost laws: { Laws definition };
 }
 
 // Cents.
 pub type Single = Row<1, 1>;
 
 impl RowKind<1, 1> for Single {
-    ghost allowed = { single_allowed };
+    ghost definition = { single_kind };
+
+    ghost is_rows = { refl };
+
+    ghost laws = { single_laws };
 }
 
 // Cents in four fixed currencies.
 pub type Purse = Row<2, 4>;
 
 impl RowKind<2, 4> for Purse {
-    ghost allowed = { purse_allowed };
+    ghost definition = { purse_kind };
+
+    ghost is_rows = { refl };
+
+    ghost laws = { purse_laws };
 }
 
 // Whether each number is below 2^63.
+#[tactic(auto, using(crate::proofs::Rows::small_most))]
 fn all_small(cents: &[u64]) -> bool
     ensures { result ≡ list_all small cents.now }
 {
-    cents.iter().all(|c| *c < LIMIT)
+    cents.iter().all(|c| *c <= MOST)
 }
 
 // Whether each number is at most its partner.
@@ -123,7 +134,7 @@ where
 
     ghost meaning = { λ a. a.cents };
 
-    ghost lawful = { rows_laws KIND N bound-1.allowed };
+    ghost lawful = { subst Laws bound-1.is_rows bound-1.laws };
 
     ghost sound = { λ a. row_writable N a.cents a.long a.bound };
 
@@ -158,6 +169,7 @@ where
         Self::of_cents(sums(&self.cents, &other.cents)).ok_or(Refusal::JoinUnwritable(0))
     }
 
+    #[tactic(auto, using(crate::proofs::Rows::at_most_pairs))]
     fn under(self, other: Self) -> bool {
         all_at_most(&self.cents, &other.cents)
     }

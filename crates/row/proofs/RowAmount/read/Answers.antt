@@ -3,15 +3,16 @@ use Rattle.std.specs.List.{list_all}
 use Rattle.std.specs.Option.{ok_or}
 use Rattle.refusal.specs.declared.cases.Refusal.TheVariants.{BadAmount}
 use Rattle.refusal.specs.Tables.{Answers, first, ◌⇒◌}
+use Rattle.amount.specs.Kinds.{Laws}
 use Rattle.amount.specs.Rows.{rows, read, numbers, small}
-use Rattle.amount.proofs.RowLaws.{rows_laws, small_read, large_unread}
+use Rattle.amount.proofs.RowLaws.{small_read, large_unread}
 use Rattle.amount.proofs.ReadLaws.{reads_none}
 use Rattle.row.specs.declared.Row.{Row}
 use Rattle.row.proofs.RowAmount.read.Goals as goal
 
 pub returns-then-bytes-width : goal.returns-then-bytes-width
 returns-then-bytes-width g c =
-    let laws = rows_laws g.row.KIND g.row.N g.bound-1.allowed in
+    let laws = subst Laws g.bound-1.is_rows g.bound-1.laws in
     reads_none (rows g.row.KIND g.row.N) laws c.args.bytes.now (λ m w e. c.if-bytes-width.true (sym (ap length e) ∙ laws.bytes_width m w ∙ sym c.width.ensures))
 
 -- what is read is the row that was made, where one was
