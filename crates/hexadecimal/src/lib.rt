@@ -3,7 +3,6 @@
 //! Only how bytes are printed; nothing of the library rests on it.
 #![tactic(auto)]
 
-use std::array::from_fn;
 use std::fmt;
 use std::str::from_utf8;
 
@@ -17,14 +16,15 @@ pub struct Hex<'a>(pub &'a [u8]);
 
 // The digits of each byte of a part.
 fn digits(part: &[u8]) -> [[u8; 2]; PART] {
-    from_fn(|i| match part.get(i) {
-        Some(b) => [DIGITS[(*b >> 4) as usize], DIGITS[(*b & 15) as usize]],
-        None => [0; 2],
-    })
+    let mut digits = [[0; 2]; PART];
+    for (pair, b) in digits.iter_mut().zip(part) {
+        *pair = [DIGITS[(*b >> 4) as usize], DIGITS[(*b & 15) as usize]];
+    }
+    digits
 }
 
 impl fmt::Display for Hex<'_> {
-    // Digits from a table, a part at a time: `{b:02x}` for each byte takes three times as long.
+    // Digits from a table, a part at a time: `{b:02x}` for each byte takes three to four times as long.
     fn fmt<W: fmt::Write>(&self, f: &mut fmt::Formatter<W>) -> fmt::Result {
         for part in self.0.chunks(PART) {
             let digits = digits(part);
